@@ -1,0 +1,10 @@
+pub mod Sums
+pub mod Periodic
+pub mod Spread
+pub mod Congruent
+pub mod Rows
+pub mod Chain
+pub mod Odd
+pub mod Equation
+pub mod Words
+pub mod Demand3

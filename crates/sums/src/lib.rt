@@ -1,0 +1,3 @@
+// The sums of the digest.
+
+fn nothing() {}
