@@ -3,7 +3,7 @@
 -- Assumes nothing.
 use mathlib.Core.Path.{_≡_, refl, sym, ap, ap₂, _∙_}
 use mathlib.Core.List.{List, [], _∷_}
-use Prim.Native.Nat.{ℕ, zero, suc, _+_, _*_, _^_}
+use Prim.Native.Nat.{ℕ, suc, _+_, _*_, _^_}
 use native.Mathlib.Nat.{mul-comm, one-mul, mul-assoc, pow-zero, pow-succ', zero-add, suc-add}
 use lib.ListN.{length, drop}
 use Rattle.sums.specs.Count.{sumTo, overRows}
@@ -31,61 +31,47 @@ module _ (w l r : ℕ) (e : ℕ → List ℕ → ℕ) (power : 2 ^ w ≡ 2 ^ l *
   unfolding overRows
   lower m ds =
       parts (λ k. overRows w m (λ ks. chain e ds (k ∷ ks)))
-      ∙ sum-cong (2 ^ l) (λ z. sumTo r (λ x. overRows w m (λ ks. chain e ds ((z * r + x) ∷ ks)))) (λ z. sumTo r (λ x. overRows w m (λ ks. chain e ds (x ∷ ks))))
-          (λ z. sum-cong r (λ x. overRows w m (λ ks. chain e ds ((z * r + x) ∷ ks))) (λ x. overRows w m (λ ks. chain e ds (x ∷ ks)))
-              (λ x. rows-cong w m (λ ks. chain e ds ((z * r + x) ∷ ks)) (λ ks. chain e ds (x ∷ ks)) (chain-blind ds z x)))
+      ∙ sum-cong (2 ^ l) (λ z. sum-cong r (λ x. rows-cong w m (chain-blind ds z x)))
       ∙ sum-const (2 ^ l) (sumTo r (λ x. overRows w m (λ ks. chain e ds (x ∷ ks))))
 
-  -- the first equation apart: summed first over its first word and the upper part of its second
-  first-apart : (m d : ℕ) (ds : List ℕ)
-      → overRows w (suc (suc m)) (chain e (d ∷ ds))
-      ≡ sumTo r (λ x. overRows w m (λ ks. chain e ds (x ∷ ks) * sumTo (2 ^ w) (λ k. sumTo (2 ^ l) (λ z. e d (k ∷ (z * r + x) ∷ ks)))))
-  unfolding overRows chain
+  -- an equation summed over its first word and the upper part of its second, x being the lower part
+  weight : ℕ → ℕ → List ℕ → ℕ
+  weight d x ks = sumTo (2 ^ w) (λ k. sumTo (2 ^ l) (λ z. e d (k ∷ (z * r + x) ∷ ks)))
+
+  -- the first equation apart, summed first
+  first-apart : (m d : ℕ) (ds : List ℕ) → overRows w (suc (suc m)) (chain e (d ∷ ds)) ≡ sumTo r (λ x. overRows w m (λ ks. chain e ds (x ∷ ks) * weight d x ks))
+  unfolding overRows chain weight
   first-apart m d ds =
-      sum-cong (2 ^ w) (λ k. sumTo (2 ^ w) (λ k′. overRows w m (λ ks. chain e ds (k′ ∷ ks) * e d (k ∷ k′ ∷ ks)))) (λ k. sumTo r (λ x. sumTo (2 ^ l) (λ z. cell k z x)))
-          (λ k. parts (λ k′. overRows w m (λ ks. chain e ds (k′ ∷ ks) * e d (k ∷ k′ ∷ ks)))
-              ∙ sum-cong (2 ^ l) (λ z. sumTo r (λ x. overRows w m (λ ks. chain e ds ((z * r + x) ∷ ks) * e d (k ∷ (z * r + x) ∷ ks)))) (λ z. sumTo r (cell k z))
-                  (λ z. sum-cong r (λ x. overRows w m (λ ks. chain e ds ((z * r + x) ∷ ks) * e d (k ∷ (z * r + x) ∷ ks))) (cell k z) (unseen k z))
-              ∙ sum-swap (2 ^ l) r (cell k))
+      sum-cong (2 ^ w) (λ k. parts (λ k′. overRows w m (λ ks. chain e ds (k′ ∷ ks) * e d (k ∷ k′ ∷ ks))) ∙ sum-cong (2 ^ l) (λ z. sum-cong r (unseen k z)) ∙ sum-swap (2 ^ l) r (cell k))
       ∙ sum-swap (2 ^ w) r (λ k x. sumTo (2 ^ l) (λ z. cell k z x))
-      ∙ sum-cong r (λ x. sumTo (2 ^ w) (λ k. sumTo (2 ^ l) (λ z. cell k z x)))
-          (λ x. overRows w m (λ ks. chain e ds (x ∷ ks) * sumTo (2 ^ w) (λ k. sumTo (2 ^ l) (λ z. e d (k ∷ (z * r + x) ∷ ks))))) gathered
+      ∙ sum-cong r gathered
     where
       cell : ℕ → ℕ → ℕ → ℕ
       cell k z x = overRows w m (λ ks. chain e ds (x ∷ ks) * e d (k ∷ (z * r + x) ∷ ks))
+
       unseen : (k z x : ℕ) → overRows w m (λ ks. chain e ds ((z * r + x) ∷ ks) * e d (k ∷ (z * r + x) ∷ ks)) ≡ cell k z x
-      unseen k z x =
-          rows-cong w m (λ ks. chain e ds ((z * r + x) ∷ ks) * e d (k ∷ (z * r + x) ∷ ks)) (λ ks. chain e ds (x ∷ ks) * e d (k ∷ (z * r + x) ∷ ks))
-              (λ ks. ap (λ (n : ℕ). n * e d (k ∷ (z * r + x) ∷ ks)) (chain-blind ds z x ks))
-      gathered : (x : ℕ) → sumTo (2 ^ w) (λ k. sumTo (2 ^ l) (λ z. cell k z x))
-          ≡ overRows w m (λ ks. chain e ds (x ∷ ks) * sumTo (2 ^ w) (λ k. sumTo (2 ^ l) (λ z. e d (k ∷ (z * r + x) ∷ ks))))
+      unseen k z x = rows-cong w m (λ ks. ap (λ (n : ℕ). n * e d (k ∷ (z * r + x) ∷ ks)) (chain-blind ds z x ks))
+
+      gathered : (x : ℕ) → sumTo (2 ^ w) (λ k. sumTo (2 ^ l) (λ z. cell k z x)) ≡ overRows w m (λ ks. chain e ds (x ∷ ks) * weight d x ks)
       gathered x =
-          sum-cong (2 ^ w) (λ k. sumTo (2 ^ l) (λ z. cell k z x)) (λ k. overRows w m (λ ks. chain e ds (x ∷ ks) * sumTo (2 ^ l) (λ z. e d (k ∷ (z * r + x) ∷ ks))))
-              (λ k. rows-sum w m (2 ^ l) (λ z ks. chain e ds (x ∷ ks) * e d (k ∷ (z * r + x) ∷ ks))
-                  ∙ rows-cong w m (λ ks. sumTo (2 ^ l) (λ z. chain e ds (x ∷ ks) * e d (k ∷ (z * r + x) ∷ ks))) (λ ks. chain e ds (x ∷ ks) * sumTo (2 ^ l) (λ z. e d (k ∷ (z * r + x) ∷ ks)))
-                      (λ ks. sum-mul (2 ^ l) (chain e ds (x ∷ ks)) (λ z. e d (k ∷ (z * r + x) ∷ ks))))
+          sum-cong (2 ^ w)
+          (λ k. rows-sum w m (2 ^ l) (λ z ks. chain e ds (x ∷ ks) * e d (k ∷ (z * r + x) ∷ ks)) ∙ rows-cong w m (λ ks. sum-mul (2 ^ l) (chain e ds (x ∷ ks)) (λ z. e d (k ∷ (z * r + x) ∷ ks))))
           ∙ rows-sum w m (2 ^ w) (λ k ks. chain e ds (x ∷ ks) * sumTo (2 ^ l) (λ z. e d (k ∷ (z * r + x) ∷ ks)))
-          ∙ rows-cong w m (λ ks. sumTo (2 ^ w) (λ k. chain e ds (x ∷ ks) * sumTo (2 ^ l) (λ z. e d (k ∷ (z * r + x) ∷ ks))))
-              (λ ks. chain e ds (x ∷ ks) * sumTo (2 ^ w) (λ k. sumTo (2 ^ l) (λ z. e d (k ∷ (z * r + x) ∷ ks))))
-              (λ ks. sum-mul (2 ^ w) (chain e ds (x ∷ ks)) (λ k. sumTo (2 ^ l) (λ z. e d (k ∷ (z * r + x) ∷ ks))))
+          ∙ rows-cong w m (λ ks. sum-mul (2 ^ w) (chain e ds (x ∷ ks)) (λ k. sumTo (2 ^ l) (λ z. e d (k ∷ (z * r + x) ∷ ks))))
 
   module _ (R : Relation) (b : ℕ)
       (heavy : (d x : ℕ) (ks : List ℕ) → R .rel (sumTo (2 ^ w) (λ k. sumTo (2 ^ l) (λ z. e d (k ∷ (z * r + x) ∷ ks)))) (b * 2 ^ l)) where
     step : (m d : ℕ) (ds : List ℕ) → R .rel (overRows w (suc (suc m)) (chain e (d ∷ ds))) (b * overRows w (suc m) (chain e ds))
+    unfolding weight
     step m d ds =
         R .trans (R .of-eq (first-apart m d ds))
         (R .trans
-            (R .sum r (λ x. overRows w m (λ ks. chain e ds (x ∷ ks) * sumTo (2 ^ w) (λ k. sumTo (2 ^ l) (λ z. e d (k ∷ (z * r + x) ∷ ks)))))
-                (λ x. overRows w m (λ ks. chain e ds (x ∷ ks) * (b * 2 ^ l)))
-                (λ x. rows-rel R w m (λ ks. chain e ds (x ∷ ks) * sumTo (2 ^ w) (λ k. sumTo (2 ^ l) (λ z. e d (k ∷ (z * r + x) ∷ ks))))
-                    (λ ks. chain e ds (x ∷ ks) * (b * 2 ^ l)) (λ ks. R .mul (chain e ds (x ∷ ks)) (heavy d x ks))))
-            (R .of-eq counted))
+        (R .sum r _ _ (λ x. rows-rel R w m _ (λ ks. chain e ds (x ∷ ks) * (b * 2 ^ l)) (λ ks. R .mul (chain e ds (x ∷ ks)) (heavy d x ks))))
+        (R .of-eq counted))
       where
         counted : sumTo r (λ x. overRows w m (λ ks. chain e ds (x ∷ ks) * (b * 2 ^ l))) ≡ b * overRows w (suc m) (chain e ds)
         counted =
-            sum-cong r (λ x. overRows w m (λ ks. chain e ds (x ∷ ks) * (b * 2 ^ l))) (λ x. b * 2 ^ l * overRows w m (λ ks. chain e ds (x ∷ ks)))
-                (λ x. rows-cong w m (λ ks. chain e ds (x ∷ ks) * (b * 2 ^ l)) (λ ks. b * 2 ^ l * chain e ds (x ∷ ks)) (λ ks. mul-comm (chain e ds (x ∷ ks)) (b * 2 ^ l))
-                    ∙ rows-mul w m (b * 2 ^ l) (λ ks. chain e ds (x ∷ ks)))
+            sum-cong r (λ x. rows-cong w m (λ ks. mul-comm (chain e ds (x ∷ ks)) (b * 2 ^ l)) ∙ rows-mul w m (b * 2 ^ l) (λ ks. chain e ds (x ∷ ks)))
             ∙ sum-mul r (b * 2 ^ l) (λ x. overRows w m (λ ks. chain e ds (x ∷ ks)))
             ∙ mul-assoc b (2 ^ l) (sumTo r (λ x. overRows w m (λ ks. chain e ds (x ∷ ks))))
             ∙ ap (λ (n : ℕ). b * n) (sym (lower m ds))
@@ -106,8 +92,7 @@ pub chain-free : (w m : ℕ) (e e′ : ℕ → List ℕ → ℕ) → ((d : ℕ) 
     → (ds : List ℕ) → overRows w (suc m) (chain e ds) ≡ 2 ^ w * overRows w m (chain e′ ds)
 unfolding overRows chain
 chain-free w m e e′ h ds =
-    sum-cong (2 ^ w) (λ k. overRows w m (λ ks. chain e ds (k ∷ ks))) (λ k. overRows w m (chain e′ ds))
-        (λ k. rows-cong w m (λ ks. chain e ds (k ∷ ks)) (chain e′ ds) (λ ks. dropped ds (k ∷ ks)))
+    sum-cong (2 ^ w) (λ k. rows-cong w m (λ ks. dropped ds (k ∷ ks)))
     ∙ sum-const (2 ^ w) (overRows w m (chain e′ ds))
   where
     dropped : (ds ks : List ℕ) → chain e ds ks ≡ chain e′ ds (drop 1 ks)

@@ -2,7 +2,7 @@
 -- Assumes nothing.
 use mathlib.Core.Path.{_≡_, sym, ap, _∙_}
 use mathlib.Core.Logic.{⊎-elim}
-use Prim.Native.Nat.{ℕ, zero, suc, _+_, _*_, _-_, _%_, _≤_, _<_}
+use Prim.Native.Nat.{ℕ, zero, suc, _+_, _*_, _-_, _%_, _<_}
 use native.Mathlib.Nat.{add-mod-right, mod-eq-of-lt, mod-lt, not-suc-le-zero, le-of-suc-le-suc, eq-or-lt-of-le, add-mul-mod-self-left, mod-add-mod, add-mod-mod, suc-mul, add-comm, zero-add}
 use native.Mathlib.Decide.{ℕ-discrete}
 use native.Mathlib.Omega.{arith}
@@ -26,7 +26,7 @@ pub congruent-multiple : (m a q y : ℕ) → congruent m (a + m * q) y ≡ congr
 congruent-multiple m a q y = congruent-left m (a + m * q) a y (add-mul-mod-self-left a m q)
 
 -- two tests for equality that hold together
-eqb-same : (a b c d : ℕ) → (a ≡ b → c ≡ d) → (c ≡ d → a ≡ b) → eqb a b ≡ eqb c d
+pub eqb-same : (a b c d : ℕ) → (a ≡ b → c ≡ d) → (c ≡ d → a ≡ b) → eqb a b ≡ eqb c d
 eqb-same a b c d to from = go (ℕ-discrete a b)
   where
     go : Dec (a ≡ b) → eqb a b ≡ eqb c d
@@ -44,15 +44,19 @@ congruent-cancel m x a b pos = ap asNumber (eqb-same ((x + a) % m) ((x + b) % m)
   where
     n : ℕ
     n = m - 1
+
     again : ℕ → ℕ
     again r = (r + n * x) % m
+
     whole : (c : ℕ) → x + c + n * x ≡ c + m * x
     whole c =
         let e : suc n ≡ m = omega arith in
         let f : m * x ≡ n * x + x = ap (λ (k : ℕ). k * x) (sym e) ∙ suc-mul n x in
         omega arith
+
     back : (c : ℕ) → again ((x + c) % m) ≡ c % m
     back c = mod-add-mod (x + c) m (n * x) ∙ ap (λ (k : ℕ). k % m) (whole c) ∙ add-mul-mod-self-left c m x
+
     forth : a % m ≡ b % m → (x + a) % m ≡ (x + b) % m
     forth e = sym (add-mod-mod x a m) ∙ ap (λ (k : ℕ). (x + k) % m) e ∙ add-mod-mod x b m
 
@@ -66,7 +70,7 @@ congruent-difference m n a b e =
     ∙ congruent-multiple m 0 b (a + n * b)
     ∙ congruent-sym m 0 (a + n * b)
 
-at-one : (n y : ℕ) → y < n → sumTo n (λ a. asNumber (eqb a y)) ≡ 1
+pub at-one : (n y : ℕ) → y < n → sumTo n (λ a. asNumber (eqb a y)) ≡ 1
 unfolding sumTo asNumber
 at-one zero y h = absurd (not-suc-le-zero h)
 at-one (suc n) y h = ⊎-elim last (λ lt. before lt (at-one n y lt)) (eq-or-lt-of-le (le-of-suc-le-suc h))
@@ -74,9 +78,10 @@ at-one (suc n) y h = ⊎-elim last (λ lt. before lt (at-one n y lt)) (eq-or-lt-
     last : y ≡ n → sumTo n (λ a. asNumber (eqb a y)) + asNumber (eqb n y) ≡ 1
     last e =
         let none : sumTo n (λ a. asNumber (eqb a y)) ≡ 0 =
-            sum-none n (λ a. asNumber (eqb a y)) (λ k lt. ap asNumber (ne-eqb k y (λ p. omega arith))) in
+        sum-none n (λ a. asNumber (eqb a y)) (λ k lt. ap asNumber (ne-eqb k y (λ p. omega arith))) in
         let one : asNumber (eqb n y) ≡ 1 = ap asNumber (eq-eqb n y (sym e)) in
         omega arith
+
     before : y < n → sumTo n (λ a. asNumber (eqb a y)) ≡ 1 → sumTo n (λ a. asNumber (eqb a y)) + asNumber (eqb n y) ≡ 1
     before lt rest =
         let none : asNumber (eqb n y) ≡ 0 = ap asNumber (ne-eqb n y (λ p. omega arith)) in
@@ -87,5 +92,5 @@ pub sum-congruent : (m y : ℕ) → 0 < m → sumTo m (λ a. congruent m a y) �
 unfolding congruent
 sum-congruent m y pos =
     sum-cong-below m (λ a. asNumber (eqb (a % m) (y % m))) (λ a. asNumber (eqb a (y % m)))
-        (λ a lt. ap (λ (x : ℕ). asNumber (eqb x (y % m))) (mod-eq-of-lt lt))
+    (λ a lt. ap (λ (x : ℕ). asNumber (eqb x (y % m))) (mod-eq-of-lt lt))
     ∙ at-one m (y % m) (mod-lt y pos)

@@ -10,14 +10,14 @@ use native.Mathlib.Omega.{arith}
 use lib.Dec.{T}
 use lib.Pow.{pow-add, pow-pos}
 use lib.ListN.{length, getD, drop}
-use Rattle.sums.specs.Digest.{fits, wholeSum, digest}
-use Rattle.sums.specs.Count.{overRows, asNumber, count, sameRow, differBy}
-use Rattle.sums.specs.Claims.{Message, keysThatDiffer, keysThatGive, CollisionBound, ExactCount}
+use Rattle.sums.specs.Digest.{fits, wholeSum}
+use Rattle.sums.specs.Count.{overRows, count}
+use Rattle.sums.specs.Claims.{keysThatDiffer, keysThatGive, CollisionBoundAt, ExactCountAt, CollisionBound, ExactCount}
 use Rattle.sums.proofs.Rows.{Equal, AtMost, rows-cong}
 use Rattle.sums.proofs.Chain.{chain, chain-total, chain-free}
-use Rattle.sums.proofs.Odd.{OddPart, odd-part, pow-mul}
+use Rattle.sums.proofs.Odd.{OddPart, odd-part, oddTimes, power, pow-mul}
 use Rattle.sums.proofs.Congruent.{congruent, congruent-cancel, congruent-sym}
-use Rattle.sums.proofs.Equation.{power, give-unseen, give-met, differ-unseen, differ-met}
+use Rattle.sums.proofs.Equation.{give-unseen, give-met, differ-unseen, differ-met}
 use Rattle.sums.proofs.Words.{fits-cons, give, apart, row-chain, differ-chain}
 
 chain-cong : (e e′ : ℕ → List ℕ → ℕ) → ((d : ℕ) (ks : List ℕ) → e d ks ≡ e′ d ks) → chain e ≡ chain e′
@@ -38,7 +38,7 @@ module _ (w j b : ℕ) (wide : w ≡ j + b) where
       → overRows w (suc (length ys + length ms)) (chain (give w b (m ∷ ms)) ys) ≡ (2 ^ j) ^ length ys * 2 ^ (w * suc (length ms))
   give-first m ms ys pos lt =
       let o : OddPart w m = odd-part w m pos lt in
-      chain-total w (o .l) (2 * 2 ^ o .i) (give w b (m ∷ ms)) (power w j b (o .l) (o .i) (o .s) wide (o .split))
+      chain-total w (o .l) (2 * 2 ^ o .i) (give w b (m ∷ ms)) (power w (o .l) (o .i) (o .split))
       (give-unseen w j b (o .l) (o .i) (o .s) wide (o .split) m ms (o .product))
       Equal (2 ^ j)
       (give-met w j b (o .l) (o .i) (o .s) wide (o .split) m ms (o .product))
@@ -81,9 +81,9 @@ module _ (w j b : ℕ) (wide : w ≡ j + b) where
       ≤ (2 * 2 ^ j) ^ length ds * 2 ^ (w * suc t)
   differ-first m m′ ms ms′ p q less lt t ds =
       let o : OddPart w (m - m′) = odd-part w (m - m′) (omega arith) (omega arith) in
-      let e : m ≡ m′ + (1 + 2 * o .s) * 2 ^ o .l = omega (arith, o .product) in
+      let e : m ≡ m′ + oddTimes (o .s) (o .l) = omega (arith, o .product) in
       chain-total w (o .l) (2 * 2 ^ o .i) (λ d ks. congruent (2 ^ b) (wholeSum w (m ∷ ms) ks + p d) (wholeSum w (m′ ∷ ms′) ks + q d))
-      (power w j b (o .l) (o .i) (o .s) wide (o .split))
+      (power w (o .l) (o .i) (o .split))
       (λ d. differ-unseen w j b (o .l) (o .i) (o .s) wide (o .split) m m′ ms ms′ e (p d) (q d))
       AtMost (2 * 2 ^ j)
       (λ d x ks. differ-met w j b (o .l) (o .i) (o .s) wide (o .split) m m′ ms ms′ e (p d) (q d) ks x)
@@ -114,8 +114,8 @@ module _ (w j b : ℕ) (wide : w ≡ j + b) where
     reordered e h less =
         le-trans
         (le-of-eq
-            (ap (λ (n : ℕ). overRows w n (chain (apart w b (x ∷ xs) (y ∷ ys)) ds)) (suc-add (length xs) (length ds) ∙ ap suc (add-comm (length xs) (length ds)))
-            ∙ ap (λ (c : List ℕ → List ℕ → ℕ). overRows w (suc (length ds + length xs)) (c ds)) (chain-cong (apart w b (x ∷ xs) (y ∷ ys)) e h)))
+        (ap (λ (n : ℕ). overRows w n (chain (apart w b (x ∷ xs) (y ∷ ys)) ds)) (suc-add (length xs) (length ds) ∙ ap suc (add-comm (length xs) (length ds)))
+        ∙ ap (λ (c : List ℕ → List ℕ → ℕ). overRows w (suc (length ds + length xs)) (c ds)) (chain-cong (apart w b (x ∷ xs) (y ∷ ys)) e h)))
         less
 
     second-larger : x < y → keys ≤ bound
@@ -130,7 +130,7 @@ module _ (w j b : ℕ) (wide : w ≡ j + b) where
     first-larger lt =
         reordered (λ d ks. congruent (2 ^ b) (wholeSum w (x ∷ xs) ks + d) (wholeSum w (y ∷ ys) ks + 0))
         (λ d ks. congruent-sym (2 ^ b) (wholeSum w (y ∷ ys) ks) (wholeSum w (x ∷ xs) ks + d)
-            ∙ ap (congruent (2 ^ b) (wholeSum w (x ∷ xs) ks + d)) (sym (add-zero (wholeSum w (y ∷ ys) ks))))
+        ∙ ap (congruent (2 ^ b) (wholeSum w (x ∷ xs) ks + d)) (sym (add-zero (wholeSum w (y ∷ ys) ks))))
         (differ-first x y xs ys (λ d. d) (λ d. 0) lt (fits-cons w x xs tx .0) (length xs) ds)
 
     equal-words : x ≡ y → overRows w (length xs + length ds) (chain (apart w b xs ys) ds) ≤ (2 * 2 ^ j) ^ length ds * 2 ^ (w * length xs) → keys ≤ bound
@@ -138,8 +138,8 @@ module _ (w j b : ℕ) (wide : w ≡ j + b) where
     equal-words e rest =
         le-trans
         (le-of-eq
-            (ap (λ (n : ℕ). overRows w n (chain (apart w b (x ∷ xs) (y ∷ ys)) ds)) (suc-add (length xs) (length ds))
-            ∙ chain-free w (length xs + length ds) (apart w b (x ∷ xs) (y ∷ ys)) (apart w b xs ys) (differ-same x y xs ys e) ds))
+        (ap (λ (n : ℕ). overRows w n (chain (apart w b (x ∷ xs) (y ∷ ys)) ds)) (suc-add (length xs) (length ds))
+        ∙ chain-free w (length xs + length ds) (apart w b (x ∷ xs) (y ∷ ys)) (apart w b xs ys) (differ-same x y xs ys e) ds))
         (le-trans (mul-le-mul-left (2 ^ w) rest) (le-of-eq (one-more w (length xs) ((2 * 2 ^ j) ^ length ds))))
 
     by-first : Dec (x ≡ y) → Dec (x < y)
@@ -172,23 +172,22 @@ bound-power w t n j =
     exponent = omega arith
 
 pub exact-count : ExactCount
-unfolding ExactCount keysThatGive count
-exact-count w b n t ms ys le m (i, ne) long below =
+unfolding ExactCount ExactCountAt keysThatGive count
+exact-count w b n t le ms ys m (i, ne) y =
     let wide : w ≡ w - b + b = sym (sub-add-cancel le) in
-    rows-cong w (t + n) (λ ks. asNumber (sameRow (digest w b n ms ks) ys)) (chain (give w b ms) ys) (λ ks. row-chain w (w - b) b wide ms n ys ks long below)
-    ∙ ap₂ (λ (x y : ℕ). overRows w (x + y) (chain (give w b ms) ys)) (sym (m .long)) (sym long)
+    rows-cong w (t + n) (λ ks. row-chain w (w - b) b wide ms n ys ks (y .long) (y .below))
+    ∙ ap₂ (λ (p q : ℕ). overRows w (p + q) (chain (give w b ms) ys)) (sym (m .long)) (sym (y .long))
     ∙ give-total w (w - b) b wide ms i ne (m .below) ys
-    ∙ ap₂ (λ (x y : ℕ). (2 ^ (w - b)) ^ y * 2 ^ (w * x)) (m .long) long
+    ∙ ap₂ (λ (p q : ℕ). (2 ^ (w - b)) ^ q * 2 ^ (w * p)) (m .long) (y .long)
     ∙ exact-power w t n (w - b)
 
 pub collision-bound : CollisionBound
-unfolding CollisionBound keysThatDiffer count
-collision-bound w b n t first second ds le m m′ ne long =
+unfolding CollisionBound CollisionBoundAt keysThatDiffer count
+collision-bound w b n t le first second ds m m′ ne long =
     let wide : w ≡ w - b + b = sym (sub-add-cancel le) in
     le-trans
     (le-of-eq
-        (rows-cong w (t + n) (λ ks. asNumber (differBy b n (digest w b n first ks) (digest w b n second ks) ds)) (chain (apart w b first second) ds)
-            (λ ks. differ-chain w (w - b) b wide first second n ds ks long)
-        ∙ ap₂ (λ (x y : ℕ). overRows w (x + y) (chain (apart w b first second) ds)) (sym (m .long)) (sym long)))
+    (rows-cong w (t + n) (λ ks. differ-chain w (w - b) b wide first second n ds ks long)
+    ∙ ap₂ (λ (p q : ℕ). overRows w (p + q) (chain (apart w b first second) ds)) (sym (m .long)) (sym long)))
     (le-trans (differ-total w (w - b) b wide first second (m′ .long ∙ sym (m .long)) ne (m .below) (m′ .below) ds)
-    (le-of-eq (ap₂ (λ (x y : ℕ). (2 * 2 ^ (w - b)) ^ y * 2 ^ (w * x)) (m .long) long ∙ bound-power w t n (w - b))))
+    (le-of-eq (ap₂ (λ (p q : ℕ). (2 * 2 ^ (w - b)) ^ q * 2 ^ (w * p)) (m .long) long ∙ bound-power w t n (w - b))))

@@ -8,3 +8,5 @@ pub mod Odd
 pub mod Equation
 pub mod Words
 pub mod Demand3
+pub mod Corollaries
+pub mod Cases

@@ -6,12 +6,24 @@ use native.Mathlib.Nat.{mod-add-div, mod-lt, add-mul-div-right, div-lt-iff-lt-mu
 use native.Mathlib.Omega.{arith}
 use lib.Pow.{pow-add}
 
+-- an odd number times 2^l
+abbrev pub oddTimes : ℕ → ℕ → ℕ
+oddTimes s l = (1 + 2 * s) * 2 ^ l
+
+-- a key word by its upper part z and its lower part x, which has i + 1 bits
+abbrev pub parted : ℕ → ℕ → ℕ → ℕ
+parted i z x = z * (2 * 2 ^ i) + x
+
+-- 2^w in those parts, for w = l + i + 1
+pub power : (w l i : ℕ) → w ≡ l + suc i → 2 ^ w ≡ 2 ^ l * (2 * 2 ^ i)
+power w l i split = ap (λ (n : ℕ). 2 ^ n) split ∙ pow-add 2 l (suc i) ∙ ap (λ (n : ℕ). 2 ^ l * n) (pow-succ' 2 i)
+
 -- c = (1 + 2s)·2^l with l < w, for 0 < c < 2^w
 pub record OddPart (w c : ℕ) : Type 0 where
   pub l : ℕ
   pub i : ℕ
   pub s : ℕ
-  pub product : c ≡ (1 + 2 * s) * 2 ^ l
+  pub product : c ≡ oddTimes s l
   pub split : w ≡ l + suc i
 
 pub odd-part : (w c : ℕ) → 0 < c → c < 2 ^ w → OddPart w c
@@ -23,7 +35,7 @@ odd-part (suc w) c pos small = go (c % 2) refl (omega arith) (odd-part w (c / 2)
         let half : OddPart w (c / 2) = rest (omega arith) (omega arith) in
         record { l = suc (half .l); i = half .i; s = half .s; product = doubled half; split = omega arith }
       where
-        doubled : (h : OddPart w (c / 2)) → c ≡ (1 + 2 * h .s) * 2 ^ suc (h .l)
+        doubled : (h : OddPart w (c / 2)) → c ≡ oddTimes (h .s) (suc (h .l))
         doubled h =
             let even : c ≡ 2 * (c / 2) = omega arith in
             even ∙ ap (λ (n : ℕ). 2 * n) (h .product) ∙ mul-left-comm 2 (1 + 2 * h .s) (2 ^ h .l) ∙ ap (λ (n : ℕ). (1 + 2 * h .s) * n) (sym (pow-succ' 2 (h .l)))

@@ -1,12 +1,13 @@
 -- 003's lemmas 1 and 2 as one count: s·2^l·k + x·z, with s and x odd, meets each residue equally often.
 -- Assumes nothing.
-use mathlib.Core.Path.{_≡_, refl, sym, ap, _∙_}
-use Prim.Native.Nat.{ℕ, zero, suc, _+_, _*_, _/_, _^_}
+use mathlib.Core.Path.{_≡_, sym, ap, _∙_}
+use Prim.Native.Nat.{ℕ, suc, _+_, _*_, _/_, _^_}
 use native.Mathlib.Nat.{add-mul-div-right}
 use native.Mathlib.Omega.{arith}
 use lib.Pow.{pow-add, pow-pos}
 use Rattle.sums.specs.Count.{sumTo}
 use Rattle.sums.proofs.Sums.{sum-cong, sum-prod, sum-swap}
+use Rattle.sums.proofs.Odd.{oddTimes, parted, power}
 use Rattle.sums.proofs.Periodic.{Per, per-mul, sum-shift, sum-odd, sum-periods}
 
 -- F has the period 2^b, and k runs below 2^(j + b): k·2^l + d meets each residue as often as any other
@@ -26,7 +27,7 @@ module _ (j b l : ℕ) (F : ℕ → ℕ) (per : Per (2 ^ b) F) where
   columns-per : Per (2 ^ l) columns
   unfolding columns
   columns-per a =
-      sum-cong (2 ^ (j + b)) (λ k. F (k * 2 ^ l + (a + 2 ^ l))) (λ k. F ((k + 1) * 2 ^ l + a)) (λ k. ap F (next k (2 ^ l)))
+      sum-cong (2 ^ (j + b)) (λ k. ap F (next k (2 ^ l)))
       ∙ sum-shift (2 ^ (j + b)) (λ k. F (k * 2 ^ l + a)) (column a) 1
     where
       next : (k L : ℕ) → k * L + (a + L) ≡ (k + 1) * L + a
@@ -47,45 +48,48 @@ module _ (j b l : ℕ) (F : ℕ → ℕ) (per : Per (2 ^ b) F) where
   unfolding columns
   spread s x c =
       sum-swap (2 ^ (j + b)) (2 ^ l) (λ k z. F ((1 + 2 * s) * k * 2 ^ l + ((1 + 2 * x) * z + c)))
-      ∙ sum-cong (2 ^ l) (λ z. sumTo (2 ^ (j + b)) (λ k. F ((1 + 2 * s) * k * 2 ^ l + ((1 + 2 * x) * z + c)))) (λ z. columns ((1 + 2 * x) * z + c)) straight
+      ∙ sum-cong (2 ^ l) straight
       ∙ sum-odd l x columns columns-per c
       ∙ all-columns
     where
       straight : (z : ℕ) → sumTo (2 ^ (j + b)) (λ k. F ((1 + 2 * s) * k * 2 ^ l + ((1 + 2 * x) * z + c))) ≡ columns ((1 + 2 * x) * z + c)
       straight z =
           let d : ℕ = (1 + 2 * x) * z + c in
-          sum-cong (2 ^ (j + b)) (λ k. F ((1 + 2 * s) * k * 2 ^ l + d)) (λ k. F (((1 + 2 * s) * k + 0) * 2 ^ l + d))
-              (λ k. ap (λ (n : ℕ). F (n * 2 ^ l + d)) (omega arith))
+          sum-cong (2 ^ (j + b)) {g = λ k. F (((1 + 2 * s) * k + 0) * 2 ^ l + d)}
+          (λ k. ap (λ (n : ℕ). F (n * 2 ^ l + d)) (omega arith))
           ∙ sum-odd (j + b) s (λ k. F (k * 2 ^ l + d)) (column d) 0
 
 -- the same for a word c = (1 + 2s)·2^l over two key words k and z·R + r, W being 2^l·R and R even: the form that 003's equation 4 takes
 module _ (w j b l i s : ℕ) (wide : w ≡ j + b) (split : w ≡ l + suc i) (F : ℕ → ℕ) (per : Per (2 ^ b) F) where
   pub two-words : (h r u : ℕ)
-      → sumTo (2 ^ w) (λ k. sumTo (2 ^ l) (λ z. F ((1 + 2 * s) * 2 ^ l * k + ((1 + 2 * s) * 2 ^ l * (z * (2 * 2 ^ i) + r) / 2 ^ w + h * (z * (2 * 2 ^ i) + r) + u))))
+      → sumTo (2 ^ w) (λ k. sumTo (2 ^ l) (λ z. F (oddTimes s l * k + (oddTimes s l * parted i z r / 2 ^ w + h * parted i z r + u))))
       ≡ 2 ^ j * 2 ^ l * sumTo (2 ^ b) F
   two-words h r u =
-      sum-cong (2 ^ w) (λ k. sumTo (2 ^ l) (λ z. F (given k z))) (λ k. sumTo (2 ^ l) (λ z. F (plain k z)))
-          (λ k. sum-cong (2 ^ l) (λ z. F (given k z)) (λ z. F (plain k z)) (λ z. ap F (same k z)))
+      sum-cong (2 ^ w) (λ k. sum-cong (2 ^ l) (λ z. ap F (same k z)))
       ∙ ap (λ (n : ℕ). sumTo (2 ^ n) (λ k. sumTo (2 ^ l) (λ z. F (plain k z)))) wide
       ∙ spread j b l F per s (s + h * 2 ^ i) (q + h * r + u)
     where
       q : ℕ
-      q = (1 + 2 * s) * 2 ^ l * r / 2 ^ w
+      q = oddTimes s l * r / 2 ^ w
+
       given : ℕ → ℕ → ℕ
-      given k z = (1 + 2 * s) * 2 ^ l * k + ((1 + 2 * s) * 2 ^ l * (z * (2 * 2 ^ i) + r) / 2 ^ w + h * (z * (2 * 2 ^ i) + r) + u)
+      given k z = oddTimes s l * k + (oddTimes s l * parted i z r / 2 ^ w + h * parted i z r + u)
+
       plain : ℕ → ℕ → ℕ
       plain k z = (1 + 2 * s) * k * 2 ^ l + ((1 + 2 * (s + h * 2 ^ i)) * z + (q + h * r + u))
-      power : 2 ^ l * (2 * 2 ^ i) ≡ 2 ^ w
-      power = ap (λ (n : ℕ). 2 ^ l * n) (omega arith) ∙ sym (pow-add 2 l (suc i)) ∙ ap (λ (n : ℕ). 2 ^ n) (sym split)
+
       regroup : (L D z : ℕ) → (1 + 2 * s) * L * (z * (2 * D) + r) ≡ (1 + 2 * s) * L * r + (1 + 2 * s) * z * (L * (2 * D))
       regroup L D z = omega arith
-      halves : (z : ℕ) → (1 + 2 * s) * 2 ^ l * (z * (2 * 2 ^ i) + r) / 2 ^ w ≡ q + (1 + 2 * s) * z
+
+      halves : (z : ℕ) → oddTimes s l * parted i z r / 2 ^ w ≡ q + (1 + 2 * s) * z
       halves z =
-          ap (λ (n : ℕ). n / 2 ^ w) (regroup (2 ^ l) (2 ^ i) z ∙ ap (λ (n : ℕ). (1 + 2 * s) * 2 ^ l * r + (1 + 2 * s) * z * n) power)
-          ∙ add-mul-div-right ((1 + 2 * s) * 2 ^ l * r) ((1 + 2 * s) * z) (pow-pos w)
-      final : (k z L D q : ℕ) → (1 + 2 * s) * L * k + (q + (1 + 2 * s) * z + h * (z * (2 * D) + r) + u)
-          ≡ (1 + 2 * s) * k * L + ((1 + 2 * (s + h * D)) * z + (q + h * r + u))
-      final k z L D q = omega arith
+          ap (λ (n : ℕ). n / 2 ^ w) (regroup (2 ^ l) (2 ^ i) z ∙ ap (λ (n : ℕ). oddTimes s l * r + (1 + 2 * s) * z * n) (sym (power w l i split)))
+          ∙ add-mul-div-right (oddTimes s l * r) ((1 + 2 * s) * z) (pow-pos w)
+
+      final : (k z L D v : ℕ) → (1 + 2 * s) * L * k + (v + (1 + 2 * s) * z + h * (z * (2 * D) + r) + u)
+          ≡ (1 + 2 * s) * k * L + ((1 + 2 * (s + h * D)) * z + (v + h * r + u))
+      final k z L D v = omega arith
+
       same : (k z : ℕ) → given k z ≡ plain k z
       same k z =
-          ap (λ (n : ℕ). (1 + 2 * s) * 2 ^ l * k + (n + h * (z * (2 * 2 ^ i) + r) + u)) (halves z) ∙ final k z (2 ^ l) (2 ^ i) q
+          ap (λ (n : ℕ). oddTimes s l * k + (n + h * parted i z r + u)) (halves z) ∙ final k z (2 ^ l) (2 ^ i) q

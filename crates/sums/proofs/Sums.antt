@@ -2,7 +2,7 @@
 -- Assumes nothing.
 use mathlib.Core.Path.{_≡_, refl, sym, ap, _∙_, fun-ext}
 use Prim.Native.Nat.{ℕ, zero, suc, _+_, _*_, _≤_, _<_}
-use native.Mathlib.Nat.{add-zero, add-suc, zero-add, zero-mul, suc-mul, mul-add, add-mul, mul-zero, le-refl, add-le-add, le-step, lt-suc-self}
+use native.Mathlib.Nat.{add-zero, add-suc, zero-mul, suc-mul, mul-add, add-mul, mul-zero, le-refl, add-le-add, le-step, lt-suc-self}
 use native.Mathlib.Omega.{arith}
 use Rattle.sums.specs.Count.{sumTo}
 
@@ -14,13 +14,13 @@ sum-cong-below (suc n) f g h =
     let last : f n ≡ g n = h n (lt-suc-self n) in
     omega arith
 
-pub sum-cong : (n : ℕ) (f g : ℕ → ℕ) → ((k : ℕ) → f k ≡ g k) → sumTo n f ≡ sumTo n g
-sum-cong n f g h = ap (sumTo n) (fun-ext h)
+pub sum-cong : (n : ℕ) {f g : ℕ → ℕ} → ((k : ℕ) → f k ≡ g k) → sumTo n f ≡ sumTo n g
+sum-cong n h = ap (sumTo n) (fun-ext h)
 
-pub sum-le : (n : ℕ) (f g : ℕ → ℕ) → ((k : ℕ) → f k ≤ g k) → sumTo n f ≤ sumTo n g
+pub sum-le : (n : ℕ) {f g : ℕ → ℕ} → ((k : ℕ) → f k ≤ g k) → sumTo n f ≤ sumTo n g
 unfolding sumTo
-sum-le zero f g h = le-refl 0
-sum-le (suc n) f g h = add-le-add (sum-le n f g h) (h n)
+sum-le zero h = le-refl 0
+sum-le (suc n) h = add-le-add (sum-le n h) (h n)
 
 pub sum-const : (n a : ℕ) → sumTo n (λ k. a) ≡ n * a
 unfolding sumTo

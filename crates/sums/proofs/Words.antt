@@ -2,13 +2,13 @@
 -- Assumes nothing.
 use mathlib.Core.Path.{_≡_, refl, sym, ap, ap₂, _∙_}
 use mathlib.Core.Bool.{Bool, true, false, _&&_}
-use mathlib.Core.List.{List, [], _∷_, map}
+use mathlib.Core.List.{List, [], _∷_}
 use Prim.Native.Nat.{ℕ, zero, suc, _+_, _*_, _%_, _^_, _<_}
 use native.Mathlib.Nat.{mod-mod, mod-eq-of-lt, mod-add-mod, suc-ne-zero}
 use native.Mathlib.Omega.{arith}
 use lib.Dec.{T, eqb, ltb, ltb→lt}
 use lib.Pow.{mod-mod-pow}
-use lib.ListN.{length, getD, drop}
+use lib.ListN.{length, drop}
 use Rattle.sums.specs.Digest.{fits, wholeSum, oneWord, fullWords, kept, digest}
 use Rattle.sums.specs.Count.{asNumber, sameRow, every, differBy}
 use Rattle.sums.proofs.Congruent.{congruent}
@@ -25,7 +25,7 @@ fits-cons w x xs t =
     let h : T (ltb x (2 ^ w)) × T (fits w xs) = both (ltb x (2 ^ w)) (fits w xs) t in
     (ltb→lt x (2 ^ w) (h .0), h .1)
 
-both-number : (a b : Bool) → asNumber (a && b) ≡ asNumber b * asNumber a
+pub both-number : (a b : Bool) → asNumber (a && b) ≡ asNumber b * asNumber a
 unfolding asNumber
 both-number true true = refl
 both-number true false = refl
@@ -66,11 +66,11 @@ module _ (w j b : ℕ) (wide : w ≡ j + b) where
   differ-chain first second (suc n) [] ks e = absurd (suc-ne-zero n (sym e))
   differ-chain first second (suc n) (d ∷ ds) ks e =
       both-number (eqb (kept b (oneWord w second ks) % 2 ^ b) ((kept b (oneWord w first ks) + d) % 2 ^ b))
-          (differBy b n (digest w b n first (drop 1 ks)) (digest w b n second (drop 1 ks)) ds)
+      (differBy b n (digest w b n first (drop 1 ks)) (digest w b n second (drop 1 ks)) ds)
       ∙ ap₂ (λ (x y : ℕ). x * y) (differ-chain first second n ds (drop 1 ks) (omega arith)) word
     where
       word : asNumber (eqb (kept b (oneWord w second ks) % 2 ^ b) ((kept b (oneWord w first ks) + d) % 2 ^ b)) ≡ apart w b first second d ks
       word =
           ap asNumber
           (ap₂ eqb (ap (λ (n : ℕ). n % 2 ^ b) (kept-word w j b second ks wide) ∙ mod-mod (wholeSum w second ks) (2 ^ b))
-              (ap (λ (n : ℕ). (n + d) % 2 ^ b) (kept-word w j b first ks wide) ∙ mod-add-mod (wholeSum w first ks) (2 ^ b) d))
+          (ap (λ (n : ℕ). (n + d) % 2 ^ b) (kept-word w j b first ks wide) ∙ mod-add-mod (wholeSum w first ks) (2 ^ b) d))

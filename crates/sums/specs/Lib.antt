@@ -1,3 +1,5 @@
 pub mod Digest
 pub mod Count
 pub mod Claims
+pub mod Corollaries
+pub mod Cases

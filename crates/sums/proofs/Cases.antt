@@ -1,0 +1,30 @@
+-- Every row of the table of starred cases holds: one test, computed over the whole table, and one theorem.
+-- Assumes nothing.
+use mathlib.Core.Path.{_≡_}
+use mathlib.Core.Bool.{Bool, true, _&&_}
+use mathlib.Core.List.{List, [], _∷_}
+use Prim.Native.Nat.{ℕ, zero, suc, _<_}
+use native.Mathlib.Nat.{not-suc-le-zero, le-of-suc-le-suc}
+use lib.Dec.{T}
+use lib.ListN.{length, getD}
+use Rattle.sums.specs.Digest.{fits, wholeSum, oneWord, fullWords, kept, digest}
+use Rattle.sums.specs.Count.{sumTo, overRows, asNumber, count, sameRow, every, differBy}
+use Rattle.sums.specs.Claims.{keysThatDiffer, keysThatGive}
+use Rattle.sums.specs.Corollaries.{RowTest}
+use Rattle.sums.specs.Cases.{Case, case, table}
+use Rattle.sums.proofs.Words.{both}
+use Rattle.sums.proofs.Corollaries.{row-test}
+
+agree : List Case → Bool
+agree [] = true
+agree (c ∷ cs) = sameRow (c .given) (c .written) && agree cs
+
+agree-at : (cs : List Case) → T (agree cs) → (i : ℕ) → i < length cs → getD cs i (case [] []) .given ≡ getD cs i (case [] []) .written
+unfolding agree RowTest
+agree-at [] t i lt = absurd (not-suc-le-zero lt)
+agree-at (c ∷ cs) t zero lt = row-test (c .given) (c .written) .0 (both (sameRow (c .given) (c .written)) (agree cs) t .0)
+agree-at (c ∷ cs) t (suc i) lt = agree-at cs (both (sameRow (c .given) (c .written)) (agree cs) t .1) i (le-of-suc-le-suc lt)
+
+pub every-case : (i : ℕ) → i < length table → getD table i (case [] []) .given ≡ getD table i (case [] []) .written
+unfolding agree table fits wholeSum oneWord fullWords kept digest sumTo overRows asNumber count sameRow every differBy keysThatDiffer keysThatGive
+every-case = agree-at table tt
