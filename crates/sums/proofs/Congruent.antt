@@ -9,7 +9,7 @@ use native.Mathlib.Omega.{arith}
 use lib.Dec.{eqb}
 use borrow.Author.Tests.{eq-eqb, ne-eqb}
 use Rattle.sums.specs.Count.{sumTo, asNumber}
-use Rattle.sums.proofs.Sums.{sum-cong-below, sum-none}
+use Rattle.sums.proofs.Sums.{sum-cong-below, sum-zeros}
 
 unfoldable pub congruent : ℕ → ℕ → ℕ → ℕ
 congruent m a y = asNumber (eqb (a % m) (y % m))
@@ -78,7 +78,7 @@ at-one (suc n) y h = ⊎-elim last (λ lt. before lt (at-one n y lt)) (eq-or-lt-
     last : y ≡ n → sumTo n (λ a. asNumber (eqb a y)) + asNumber (eqb n y) ≡ 1
     last e =
         let none : sumTo n (λ a. asNumber (eqb a y)) ≡ 0 =
-        sum-none n (λ a. asNumber (eqb a y)) (λ k lt. ap asNumber (ne-eqb k y (λ p. omega arith))) in
+        sum-zeros n (λ a. asNumber (eqb a y)) (λ k lt. ap asNumber (ne-eqb k y (λ p. omega arith))) in
         let one : asNumber (eqb n y) ≡ 1 = ap asNumber (eq-eqb n y (sym e)) in
         omega arith
 

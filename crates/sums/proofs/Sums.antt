@@ -75,6 +75,6 @@ sum-prod (suc a) b f =
     ∙ sum-split (a * b) b f
     ∙ ap (λ (s : ℕ). s + sumTo b (λ r. f (a * b + r))) (sum-prod a b f)
 
--- a sum of at most as many places as it has terms: nothing but 0
-pub sum-none : (n : ℕ) (f : ℕ → ℕ) → ((k : ℕ) → k < n → f k ≡ 0) → sumTo n f ≡ 0
-sum-none n f h = sum-cong-below n f (λ k. 0) h ∙ sum-const n 0 ∙ mul-zero n
+-- a sum of zeros
+pub sum-zeros : (n : ℕ) (f : ℕ → ℕ) → ((k : ℕ) → k < n → f k ≡ 0) → sumTo n f ≡ 0
+sum-zeros n f h = sum-cong-below n f (λ k. 0) h ∙ sum-const n 0 ∙ mul-zero n

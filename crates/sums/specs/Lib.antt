@@ -2,4 +2,5 @@ pub mod Digest
 pub mod Count
 pub mod Claims
 pub mod Corollaries
+pub mod Leaf
 pub mod Cases

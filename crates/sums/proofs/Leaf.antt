@@ -1,0 +1,36 @@
+-- What the code's one-word sum answers, by the width and the key's length.
+use mathlib.Core.Path.{_≡_, _∙_, sym}
+use mathlib.Core.List.{List}
+use Prim.Native.Nat.{ℕ, suc, _+_, _-_, _*_, _%_, _^_, _≤_, _<_}
+use native.Mathlib.Nat.{zero-mod, mod-add-mod}
+use native.Mathlib.Omega.{arith}
+use borrow.Author.Tests.{le-leb, lt-leb}
+use lib.ListN.{length, getD, take, drop-of-length-le}
+use lib.Pow.{mod-mod-pow}
+use Rattle.sums.specs.Digest.{wholeSum, oneWord}
+use Rattle.sums.specs.Leaf.{leafWord, orZero}
+use Rattle.sums.proofs.Laws.{sum-none, sum-short}
+
+pub leaf-wide : (w : ℕ) (ms ks : List ℕ) → 32 < w → leafWord w ms ks ≡ 0
+unfolding leafWord orZero
+leaf-wide w ms ks h = rw (lt-leb w 32 h)
+
+module _ (w : ℕ) (ms ks : List ℕ) (fits : w ≤ 32) where
+  pub leaf-one : leafWord w ms ks ≡ oneWord w ms ks
+  unfolding leafWord orZero
+  leaf-one = rw (le-leb w 32 fits)
+
+  -- the sum may be reduced modulo 2^64 first
+  pub leaf-long : leafWord w ms ks ≡ wholeSum w ms ks % 2 ^ 64 % 2 ^ w
+  unfolding oneWord
+  leaf-long =
+      let e : 64 - w + w ≡ 64 = omega arith in
+      leaf-one ∙ sym (rw e at (mod-mod-pow (wholeSum w ms ks) (64 - w) w))
+
+  -- the word over the last key word adds one product, and those after it nothing
+  pub leaf-short : (n : ℕ) → length ks ≡ suc n → n < length ms
+      → leafWord w ms ks ≡ (wholeSum w (take n ms) ks % 2 ^ 64 + getD ms n 0 * getD ks n 0) % 2 ^ 64 % 2 ^ w
+  leaf-short n hk hm = leaf-long ∙ rw (sum-short w n ms ks hk hm, mod-add-mod)
+
+  pub leaf-none : length ks ≤ 0 → leafWord w ms ks ≡ 0
+  leaf-none h = leaf-long ∙ rw (drop-of-length-le ks h, sum-none, zero-mod (2 ^ w))
