@@ -2,7 +2,8 @@
 ghost use mathlib.Core.Path.{_≡_};
 ghost use Prim.Native.Nat.{_+_, _*_, _/_, _%_, _^_, _≤_, _<_};
 ghost use lib.ListN.{length};
-ghost use Rattle.sums.specs.Digest.{wholeSum};
+ghost use lib.Dec.{ltb};
+ghost use Rattle.sums.specs.Digest.{wholeSum, kept};
 ghost use Rattle.sums.specs.Leaf.{leafWord};
 
 // The whole product, of up to 64 bits.
@@ -68,6 +69,26 @@ fn add_term(w: u32, sum: u64, m: u32, k: u32, next: u32) -> u64
 {
     let both = std::num::wrapping_add_u64(product(m, k), product(m, next) >> w);
     std::num::wrapping_add_u64(sum, both)
+}
+
+// The low b bits of a word, for every b.
+pub fn keep(b: u32, word: u32) -> u32
+    ensures { λ r. ⌜ r ≡ kept b word ⌝ }
+{
+    if 32 <= b {
+        return word;
+    }
+    low_bits(word as u64, b)
+}
+
+// Whether a word is below 2^w, for every w.
+pub fn below(w: u32, word: u32) -> bool
+    ensures { λ r. ⌜ r ≡ ltb word (2 ^ w) ⌝ }
+{
+    if 32 <= w {
+        return true;
+    }
+    (word as u64) < power(w)
 }
 
 fn low_bits(sum: u64, w: u32) -> u32

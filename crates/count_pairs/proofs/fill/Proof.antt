@@ -1,0 +1,62 @@
+-- `count_pairs::fill` meets its contract: the places passed hold their counts.
+use mathlib.Core.Path.{_≡_}
+use Prim.Native.Nat.{_-_, _≤_}
+use native.Mathlib.Nat.{not-suc-le-zero}
+use native.Mathlib.Omega.{arith}
+use borrow.Author.Needs.{needs}
+use lib.ListN.{length, length-set}
+use Rattle.count_pairs.specs.Search.{Filled}
+use Rattle.count_pairs.proofs.Row.{filled-more}
+use Rattle.count_pairs.proofs.fill.Statement.{statement}
+use Rattle.count_pairs.proofs.fill.Tie as tie
+
+abbrev Inv-loop : tie.InvT-loop
+Inv-loop counts₀ i₀ counts i = (i ≤ 16384) × ((length counts ≡ 16384) × Filled counts i)
+
+abbrev μ-loop : tie.MeasureT-loop
+μ-loop counts₀ i₀ counts i = 16384 - i
+
+loop-holds : tie.Need-loop-holds Inv-loop μ-loop
+loop-holds c = (search needs, (c .pre, λ j h. absurd (not-suc-le-zero h)))
+
+cast-cell : tie.Need-cast-cell Inv-loop μ-loop
+cast-cell c = search needs
+
+cell-requires : tie.Need-cell-requires Inv-loop μ-loop
+cell-requires c κs = search needs
+
+mul-counts : tie.Need-mul-counts Inv-loop μ-loop
+mul-counts c = search needs
+
+element-write-counts : tie.Need-element-write-counts Inv-loop μ-loop
+element-write-counts c = search needs
+
+add-i : tie.Need-add-i Inv-loop μ-loop
+add-i c = search needs
+
+loop-less : tie.Need-loop-less Inv-loop μ-loop
+loop-less c = search needs
+
+loop-again : tie.Need-loop-again Inv-loop μ-loop
+loop-again c =
+    let l = c .before .before .loop in
+    (search needs, (simp length-set (l .inv .1 .0), filled-more (l .counts) (l .i) (c .cell .result) (omega arith) (c .cell .ensures) (l .inv .1 .1)))
+
+returns : tie.Need-returns Inv-loop μ-loop
+returns c = let all : c .before .loop .i ≡ 16384 = omega arith in rw all at (c .before .loop .inv .1 .1)
+
+pub fill-spec : {M : Type 1} → statement M
+fill-spec =
+    tie.close
+    (tie.spec
+    Inv-loop
+    μ-loop
+    loop-holds
+    cast-cell
+    cell-requires
+    mul-counts
+    element-write-counts
+    add-i
+    loop-less
+    loop-again
+    returns)

@@ -1,0 +1,41 @@
+-- The largest count of any pair. The pairs stand in a row of 128 · 128 places, place i for the messages i / 128 and i % 128.
+use mathlib.Core.Path.{_≡_}
+use mathlib.Core.Bool.{_&&_}
+use mathlib.Core.List.{List}
+use Prim.Native.Nat.{ℕ, _+_, _*_, _/_, _%_, _≤_, _<_}
+use lib.Dec.{ltb, eqb}
+use lib.ListN.{getD}
+use Rattle.sums.specs.Count.{sumTo, asNumber}
+use Rattle.sums.specs.Leaf.{orZero}
+use Rattle.count_pairs.specs.Agree.{agreeing}
+
+-- the count at a place: 0 where the first message is not below the second, so that each pair has one place
+unfoldable pub cellAt : ℕ → ℕ
+cellAt i = orZero (ltb (i / 128) (i % 128)) (agreeing (i / 128) (i % 128))
+
+-- the first n numbers of the row are the counts
+abbrev pub Filled : List ℕ → ℕ → Type 0
+Filled xs n = (j : ℕ) → j < n → getD xs j 0 ≡ cellAt j
+
+-- at is the first place, of those below n, with the largest number of the row
+pub record First (xs : List ℕ) (n at : ℕ) : Type 0 where
+  pub within : at < n
+  pub most : (j : ℕ) → j < n → getD xs j 0 ≤ getD xs at 0
+  pub before : (j : ℕ) → j < at → getD xs j 0 < getD xs at 0
+
+-- 1 where x stands at the place i of the row, else 0
+unfoldable pub standsAt : List ℕ → ℕ → ℕ → ℕ
+standsAt xs x i = asNumber (eqb (getD xs i 0) x)
+
+-- 1 where the place is a pair whose count is n, else 0
+unfoldable pub reaches : ℕ → ℕ → ℕ
+reaches n i = asNumber (ltb (i / 128) (i % 128) && eqb (agreeing (i / 128) (i % 128)) n)
+
+-- the largest count, the first pair that reaches it (by the first message, then the second), and how many pairs do
+pub record Largest (largest first second pairs : ℕ) : Type 0 where
+  pub most : (a b : ℕ) → a < b → b < 128 → agreeing a b ≤ largest
+  pub ordered : first < second
+  pub below : second < 128
+  pub reached : agreeing first second ≡ largest
+  pub before : (a b : ℕ) → a < b → b < 128 → a * 128 + b < first * 128 + second → agreeing a b < largest
+  pub times : pairs ≡ sumTo (128 * 128) (reaches largest)
