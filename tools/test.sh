@@ -1,10 +1,12 @@
 #!/usr/bin/env bash
-# The whole gate. Stops at the first failure; its last line adds up what rt ci and the Rust tests say of themselves.
+# The whole gate. Stops at the first failure; its last line adds up what rt ci and the tests say of themselves.
 set -euo pipefail
+shopt -s nullglob
 cd "$(dirname "$0")/.."
 
 logs=$(mktemp -d)
 trap 'rm -rf "$logs"' EXIT
+passed=0
 
 fail() {
     echo "test: $*" >&2
@@ -12,25 +14,47 @@ fail() {
 }
 
 # A crate folder that crates.txt does not list would go unproved.
-for folder in crates/*/; do
-    name=$(basename "$folder")
-    grep -q "^$name:" crates.txt || fail "crates.txt does not list crates/$name"
-done
+check_list() {
+    local folder name
+    for folder in crates/*/; do
+        name=$(basename "$folder")
+        grep -q "^$name:" crates.txt || fail "crates.txt does not list crates/$name"
+    done
+}
 
+# run NAME SCRIPT COMMAND...: runs the command and adds up the numbers that sed's SCRIPT finds in its output.
+run() {
+    local name=$1 script=$2 counts count
+    shift 2
+    "$@" | tee "$logs/$name"
+    counts=$(sed -n "$script" "$logs/$name")
+    [ -n "$counts" ] || fail "$name did not say how many tests passed"
+    for count in $counts; do
+        passed=$((passed + count))
+    done
+}
+
+last_line='$s/^\([0-9][0-9]*\) passed, 0 failed$/\1/p'
+results='s/^test result: ok\. \([0-9][0-9]*\) passed; 0 failed;.*/\1/p'
+
+check_list
 rt fmt --check
-rt ci | tee "$logs/ci"
-passed=$(sed -n '$s/^\([0-9][0-9]*\) passed, 0 failed$/\1/p' "$logs/ci")
-[ -n "$passed" ] || fail "rt ci did not end in 'N passed, 0 failed'"
+run rt-ci "$last_line" rt ci
 
 # Each Rust test file is a program of its own: independent implementations, compared with what the proved programs write.
 mkdir -p target/tests
 for source in tests/*.rs; do
     name=$(basename "$source" .rs)
     rustc --edition 2021 -O --test "$source" -o "target/tests/$name"
-    "target/tests/$name" | tee "$logs/$name"
-    more=$(sed -n 's/^test result: ok\. \([0-9][0-9]*\) passed; 0 failed;.*/\1/p' "$logs/$name")
-    [ -n "$more" ] || fail "tests/$name.rs did not say how many tests passed"
-    passed=$((passed + more))
+    run "$name" "$results" "target/tests/$name"
 done
+
+# The proved library, called from Rust, with the full number of random calls, and from C.
+unset PAIRING_RANDOM_CALLS
+rt staticlib capi
+CARGO_TARGET_DIR=target/agent run agent "$results" \
+    cargo test --manifest-path agent/Cargo.toml --release --offline -- --show-output
+cc -std=c11 -Wall -Wextra -Werror -O2 -Iinclude tests/c_interface.c target/staticlib/libcapi.a -o target/tests/c_interface
+run c_interface "$results" target/tests/c_interface
 
 echo "$passed passed, 0 failed"

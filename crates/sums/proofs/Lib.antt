@@ -9,7 +9,6 @@ pub mod Equation
 pub mod Words
 pub mod Demand3
 pub mod Corollaries
-pub mod Cases
 pub mod Laws
 pub mod Left
 pub mod Leaf

@@ -3,4 +3,3 @@ pub mod Count
 pub mod Claims
 pub mod Corollaries
 pub mod Leaf
-pub mod Cases

@@ -7,13 +7,15 @@ use Prim.Native.Nat.{ℕ, zero, suc, _<_}
 use native.Mathlib.Nat.{not-suc-le-zero, le-of-suc-le-suc}
 use lib.Dec.{T}
 use lib.ListN.{length, getD}
 use Rattle.sums.specs.Digest.{fits, wholeSum, oneWord, fullWords, kept, digest}
 use Rattle.sums.specs.Count.{sumTo, overRows, asNumber, count, sameRow, every, differBy}
 use Rattle.sums.specs.Claims.{keysThatDiffer, keysThatGive}
 use Rattle.sums.specs.Corollaries.{RowTest}
-use Rattle.sums.specs.Cases.{Case, case, table}
+use Rattle.digest.specs.Answers.{firstOf, widthTest, keptTest, countTest, longTest, keyTest, trayTest, wordTest, afterwards}
+use Rattle.digest.specs.Words.{digestAnswer, digestRow}
+use Rattle.worked_cases.specs.Cases.{Case, case, called, table}
 use Rattle.sums.proofs.Words.{both}
 use Rattle.sums.proofs.Corollaries.{row-test}
 
 agree : List Case → Bool
 agree [] = true
@@ -26,5 +28,5 @@ agree-at (c ∷ cs) t zero lt = row-test (c .given) (c .written) .0 (both (sameR
 agree-at (c ∷ cs) t (suc i) lt = agree-at cs (both (sameRow (c .given) (c .written)) (agree cs) t .1) i (le-of-suc-le-suc lt)
 
 pub every-case : (i : ℕ) → i < length table → getD table i (case [] []) .given ≡ getD table i (case [] []) .written
-unfolding agree table fits wholeSum oneWord fullWords kept digest sumTo overRows asNumber count sameRow every differBy keysThatDiffer keysThatGive
+unfolding agree table called digestAnswer digestRow firstOf widthTest keptTest countTest longTest keyTest trayTest wordTest afterwards fits wholeSum oneWord fullWords kept digest sumTo overRows asNumber count sameRow every differBy keysThatDiffer keysThatGive
 every-case = agree-at table tt

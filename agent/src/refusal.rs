@@ -1,0 +1,123 @@
+//! Why the library refused a call.
+
+use std::error::Error;
+use std::fmt;
+
+/// Why the library refused a call. The call has changed no row.
+///
+/// The library tests in the order of the numbers, a state before all else, and answers the first
+/// test that holds.
+#[derive(Clone, Copy, Debug, PartialEq, Eq, Hash)]
+#[non_exhaustive]
+#[repr(u32)]
+pub enum Refusal {
+    /// The width is not 1 to 32 bits; for bytes, not 8, 16 or 32.
+    Width = 1,
+    /// No bits are kept, or more than the width has.
+    Kept = 2,
+    /// The digest is not to have 1 to 8 words.
+    Count = 3,
+    /// The message, or the row to stretch into, is too long.
+    Long = 4,
+    /// The key's length does not go with the message's.
+    Key = 5,
+    /// The output is too short, or a row to match is not as long as the digest.
+    Tray = 6,
+    /// A message or key word is too large for the width.
+    Word = 7,
+    /// A state that was handed in is none that the library leaves.
+    State = 8,
+}
+
+impl Refusal {
+    /// Every refusal, by its number.
+    pub const ALL: [Refusal; 8] = [
+        Refusal::Width,
+        Refusal::Kept,
+        Refusal::Count,
+        Refusal::Long,
+        Refusal::Key,
+        Refusal::Tray,
+        Refusal::Word,
+        Refusal::State,
+    ];
+
+    /// The number that the library answers for this refusal.
+    #[must_use]
+    pub const fn number(self) -> u32 {
+        self as u32
+    }
+
+    /// The refusal of that number, if there is one.
+    #[must_use]
+    pub fn from_number(number: u32) -> Option<Refusal> {
+        Refusal::ALL
+            .into_iter()
+            .find(|refusal| refusal.number() == number)
+    }
+}
+
+impl fmt::Display for Refusal {
+    fn fmt(&self, to: &mut fmt::Formatter<'_>) -> fmt::Result {
+        to.write_str(match self {
+            Refusal::Width => {
+                "wrong width: set words of 1 to 32 bits, or of 8, 16 or 32 bits to digest bytes"
+            }
+            Refusal::Kept => "wrong kept bits: keep at least 1 bit and no more than the width",
+            Refusal::Count => "wrong digest size: ask for 1 to 8 digest words",
+            Refusal::Long => "too long: shorten the message, or stretch into a shorter row",
+            Refusal::Key => {
+                "wrong lengths: the key does not go with the message; \
+                 check the word count and pair again"
+            }
+            Refusal::Tray => {
+                "wrong lengths: lend an output with room for the whole digest, and match rows of \
+                 exactly its size; check the word count and pair again"
+            }
+            Refusal::Word => {
+                "word too large: both ends must use one width; check it and pair again"
+            }
+            Refusal::State => "damaged state: throw it away, open a new one and start over",
+        })
+    }
+}
+
+impl Error for Refusal {}
+
+#[cfg(test)]
+mod tests {
+    use super::Refusal;
+
+    #[test]
+    fn numbers_and_refusals_go_together() {
+        for (i, refusal) in Refusal::ALL.into_iter().enumerate() {
+            assert_eq!(refusal.number() as usize, i + 1);
+            assert_eq!(Refusal::from_number(refusal.number()), Some(refusal));
+        }
+        for number in [0, 9, 10, 99, 100, 101, 256 + 1, u32::MAX] {
+            assert_eq!(Refusal::from_number(number), None);
+        }
+    }
+
+    #[test]
+    fn every_text_is_its_own() {
+        for one in Refusal::ALL {
+            assert!(!one.to_string().is_empty());
+            for other in Refusal::ALL {
+                assert_eq!(one.to_string() == other.to_string(), one == other);
+            }
+        }
+    }
+
+    #[test]
+    fn wrong_lengths_say_what_to_do() {
+        for refusal in [Refusal::Key, Refusal::Tray] {
+            let text = refusal.to_string();
+            assert!(text.starts_with("wrong lengths"), "{text}");
+            assert!(
+                text.ends_with("check the word count and pair again"),
+                "{text}"
+            );
+        }
+    }
+}

@@ -1,0 +1,89 @@
+//! What the library must answer, written from the paper's equations and the table of answers, in
+//! whole numbers of 128 bits and with no eye to speed. It shares nothing with the library.
+
+/// What a call leaves: its answer, and the output row.
+#[derive(Debug, PartialEq, Eq)]
+pub struct Outcome {
+    pub answer: u32,
+    pub out: Vec<u32>,
+}
+
+/// The word digest as a whole call.
+pub fn digest_words(w: u32, b: u32, n: u32, message: &[u32], key: &[u32], out: &[u32]) -> Outcome {
+    let answer = digest_answer(w, b, n, message, key, out.len());
+    let mut out = out.to_vec();
+    if answer == 0 {
+        for i in 1..=n as usize {
+            out[i - 1] = digest_word(w, b, i, message, key);
+        }
+    }
+    Outcome { answer, out }
+}
+
+fn digest_answer(w: u32, b: u32, n: u32, message: &[u32], key: &[u32], places: usize) -> u32 {
+    if w == 0 || w > 32 {
+        return 1;
+    }
+    if b == 0 || b > w {
+        return 2;
+    }
+    if n == 0 || n > 8 {
+        return 3;
+    }
+    if message.len() > 65_536 {
+        return 4;
+    }
+    if key.len() != message.len() + n as usize {
+        return 5;
+    }
+    if places < n as usize {
+        return 6;
+    }
+    let size = two_to(w);
+    for word in message.iter().chain(key) {
+        if u128::from(*word) >= size {
+            return 7;
+        }
+    }
+    0
+}
+
+/// The match as a whole call.
+pub fn match_answer(n: u32, first: &[u32], second: &[u32]) -> u32 {
+    if n == 0 || n > 8 {
+        return 3;
+    }
+    if first.len() != n as usize || second.len() != n as usize {
+        return 6;
+    }
+    if first == second {
+        100
+    } else {
+        101
+    }
+}
+
+/// Digest word i, counted from 1 (section 5.3), its low b bits (equation 5).
+fn digest_word(w: u32, b: u32, i: usize, message: &[u32], key: &[u32]) -> u32 {
+    let t = message.len();
+    let word = one_word(w, message, &key[i - 1..t + i]) % two_to(b);
+    u32::try_from(word).unwrap()
+}
+
+/// The digest of one word (equation 2), under a key of one word more than the message.
+fn one_word(w: u32, message: &[u32], key: &[u32]) -> u128 {
+    assert_eq!(key.len(), message.len() + 1);
+    let size = two_to(w);
+    let mut sum = 0;
+    for (i, m) in message.iter().enumerate() {
+        let m = u128::from(*m);
+        let low = m * u128::from(key[i]);
+        let high = m * u128::from(key[i + 1]) / size;
+        sum = (sum + low + high) % size;
+    }
+    sum
+}
+
+fn two_to(e: u32) -> u128 {
+    2u128.pow(e)
+}

@@ -1,0 +1,28 @@
+// The C interface: each entry hands its rows on and promises what the function behind it promises. A slice passes as a pointer and a count.
+ghost use mathlib.Core.Path.{_≡_};
+ghost use Rattle.digest.specs.Words.{digestAnswer, digestRow};
+ghost use Rattle.digest.specs.Match.{matchAnswer};
+
+#[no_mangle]
+pub extern "C" fn pairing_digest_words(
+    w: u32,
+    b: u32,
+    n: u32,
+    message: &[u32],
+    key: &[u32],
+    out: &mut [u32],
+) -> u32
+    ensures { λ r. ⌜
+        (r ≡ digestAnswer w b n (now (message .entry)) (now (key .entry)) (now (out .entry)))
+        × (now (out .exit) ≡ digestRow w b n (now (message .entry)) (now (key .entry)) (now (out .entry)))
+        ⌝ }
+{
+    digest::words::digest_words(w, b, n, message, key, out)
+}
+
+#[no_mangle]
+pub extern "C" fn pairing_match(n: u32, first: &[u32], second: &[u32]) -> u32
+    ensures { λ r. ⌜ r ≡ matchAnswer n (now (first .entry)) (now (second .entry)) ⌝ }
+{
+    digest::matching::digests_match(n, first, second)
+}

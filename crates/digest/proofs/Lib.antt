@@ -1,0 +1,4 @@
+pub mod Fits
+pub mod Judged
+pub mod Written
+pub mod FalseMatch

@@ -1,0 +1,24 @@
+-- The word digest's promise: w, b, n as in "The sum", the message, the key, and the output row as it is lent.
+use mathlib.Core.List.{List, [], _∷_}
+use Prim.Native.Nat.{ℕ}
+use lib.ListN.{length}
+use Rattle.sums.specs.Digest.{digest}
+use Rattle.digest.specs.Answers.{firstOf, widthTest, keptTest, countTest, longTest, keyTest, trayTest, wordTest, afterwards}
+
+-- 01, "then 1 to 7 in order"; 0 for an accepted call
+unfoldable pub digestAnswer : ℕ → ℕ → ℕ → List ℕ → List ℕ → List ℕ → ℕ
+digestAnswer w b n ms ks out =
+    firstOf
+    (widthTest w
+    ∷ keptTest w b
+    ∷ countTest n
+    ∷ longTest (length ms)
+    ∷ keyTest (length ms) n (length ks)
+    ∷ trayTest n (length out)
+    ∷ wordTest w ms ks
+    ∷ [])
+    0
+
+-- the output row after the call
+unfoldable pub digestRow : ℕ → ℕ → ℕ → List ℕ → List ℕ → List ℕ → List ℕ
+digestRow w b n ms ks out = afterwards (digestAnswer w b n ms ks out) (digest w b n ms ks) out

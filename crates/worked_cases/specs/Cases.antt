@@ -1,0 +1,60 @@
+-- Document 01's starred cases: what the definitions give, and what the document says. One row for each case.
+use mathlib.Core.List.{List, [], _∷_}
+use Prim.Native.Nat.{ℕ}
+use lib.ListN.{replicate}
+use Rattle.sums.specs.Claims.{keysThatDiffer, keysThatGive}
+use Rattle.digest.specs.Words.{digestAnswer, digestRow}
+
+-- a row: the numbers that the definitions give, and those of the document
+pub record Case : Type 0 where
+  pub given : List ℕ
+  pub written : List ℕ
+
+abbrev pub case : List ℕ → List ℕ → Case
+case given written = record { given = given; written = written }
+
+-- the answer and the digest words of a call on an output of n zeros
+unfoldable pub called : ℕ → ℕ → ℕ → List ℕ → List ℕ → List ℕ
+called w b n ms ks = digestAnswer w b n ms ks (replicate n 0) ∷ digestRow w b n ms ks (replicate n 0)
+
+-- A: w 8, b 8, n 1, message 1, key 5 200
+abbrev pub caseA : Case
+caseA = case (called 8 8 1 (1 ∷ []) (5 ∷ 200 ∷ [])) (0 ∷ 0x05 ∷ [])
+
+-- B: w 8, b 8, n 1, message 255, key 255 255
+abbrev pub caseB : Case
+caseB = case (called 8 8 1 (255 ∷ []) (255 ∷ 255 ∷ [])) (0 ∷ 0xff ∷ [])
+
+-- C: w 8, b 8, n 2, message 3 7, key 10 20 100 250
+abbrev pub caseC : Case
+caseC = case (called 8 8 2 (3 ∷ 7 ∷ []) (10 ∷ 20 ∷ 100 ∷ 250 ∷ [])) (0 ∷ 0xac ∷ 0xff ∷ [])
+
+-- D: C with b 4
+abbrev pub caseD : Case
+caseD = case (called 8 4 2 (3 ∷ 7 ∷ []) (10 ∷ 20 ∷ 100 ∷ 250 ∷ [])) (0 ∷ 0x0c ∷ 0x0f ∷ [])
+
+-- E: w 32, b 32, n 1, all three words 0xffffffff
+abbrev pub caseE : Case
+caseE = case (called 32 32 1 (0xffff_ffff ∷ []) (0xffff_ffff ∷ 0xffff_ffff ∷ [])) (0 ∷ 0xffff_ffff ∷ [])
+
+-- F: w 8, b 8, n 1, no message, key 7
+abbrev pub caseF : Case
+caseF = case (called 8 8 1 [] (7 ∷ [])) (0 ∷ 0x00 ∷ [])
+
+-- I: w 2, t 1, n 1, b 2: messages 1 and 3 agree under 6 of 16 keys
+abbrev pub caseI : Case
+caseI = case (keysThatDiffer 2 2 1 1 (1 ∷ []) (3 ∷ []) (0 ∷ []) ∷ []) (6 ∷ [])
+
+-- J: same settings, message 3: each digest has exactly 4 keys
+abbrev pub caseJ : Case
+caseJ =
+    case
+    (keysThatGive 2 2 1 1 (3 ∷ []) (0 ∷ [])
+    ∷ keysThatGive 2 2 1 1 (3 ∷ []) (1 ∷ [])
+    ∷ keysThatGive 2 2 1 1 (3 ∷ []) (2 ∷ [])
+    ∷ keysThatGive 2 2 1 1 (3 ∷ []) (3 ∷ [])
+    ∷ [])
+    (4 ∷ 4 ∷ 4 ∷ 4 ∷ [])
+
+unfoldable pub table : List Case
+table = caseA ∷ caseB ∷ caseC ∷ caseD ∷ caseE ∷ caseF ∷ caseI ∷ caseJ ∷ []
