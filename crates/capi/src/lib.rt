@@ -1,7 +1,10 @@
 // The C interface: each entry hands its rows on and promises what the function behind it promises. A slice passes as a pointer and a count.
 ghost use mathlib.Core.Path.{_≡_};
 ghost use Rattle.digest.specs.Words.{digestAnswer, digestRow};
+ghost use Rattle.digest.specs.Bytes.{bytesAnswer, bytesRow};
 ghost use Rattle.digest.specs.Match.{matchAnswer};
+ghost use Rattle.mt19937.specs.Stretch.{stretchAnswer, stretched};
+ghost use lib.ListN.{length};
 
 #[no_mangle]
 pub extern "C" fn pairing_digest_words(
@@ -21,8 +24,35 @@ pub extern "C" fn pairing_digest_words(
 }
 
 #[no_mangle]
+pub extern "C" fn pairing_digest_bytes(
+    w: u32,
+    b: u32,
+    n: u32,
+    message: &[u8],
+    key: &[u32],
+    out: &mut [u32],
+) -> u32
+    ensures { λ r. ⌜
+        (r ≡ bytesAnswer w b n (now (message .entry)) (now (key .entry)) (now (out .entry)))
+        × (now (out .exit) ≡ bytesRow w b n (now (message .entry)) (now (key .entry)) (now (out .entry)))
+        ⌝ }
+{
+    digest::bytes::digest_bytes(w, b, n, message, key, out)
+}
+
+#[no_mangle]
 pub extern "C" fn pairing_match(n: u32, first: &[u32], second: &[u32]) -> u32
     ensures { λ r. ⌜ r ≡ matchAnswer n (now (first .entry)) (now (second .entry)) ⌝ }
 {
     digest::matching::digests_match(n, first, second)
+}
+
+#[no_mangle]
+pub extern "C" fn pairing_stretch(w: u32, seed: u32, out: &mut [u32]) -> u32
+    ensures { λ r. ⌜
+        (r ≡ stretchAnswer w (length (now (out .entry))))
+        × (now (out .exit) ≡ stretched w seed (now (out .entry)))
+        ⌝ }
+{
+    mt19937::stretch(w, seed, out)
 }

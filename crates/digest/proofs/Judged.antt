@@ -1,23 +1,26 @@
 -- The first test that holds gives the answer: one law for each outcome of each test, and what an accepted call has passed.
-use mathlib.Core.Path.{_≡_, refl, ap}
-use mathlib.Core.Bool.{Bool, true, false, not, _&&_, _||_, true≢false}
+use mathlib.Core.Path.{_≡_, refl, sym, ap, _∙_}
+use mathlib.Core.Bool.{Bool, true, false, not, cond, _&&_, _||_, true≢false}
 use mathlib.Core.List.{List, [], _∷_, _++_}
 use Prim.Native.Nat.{ℕ, suc, _+_, _≤_, _<_}
 use native.Mathlib.Omega.{arith}
-use lib.Dec.{ltb, eqb}
+use lib.Dec.{T, ltb, eqb, ltb→lt}
 use lib.ListN.{length, drop}
 use borrow.Author.Tests.{lt-ltb, le-ltb, eq-eqb, ne-eqb, ltb-false, eqb-true}
 use Rattle.sums.specs.Digest.{fits}
-use Rattle.digest.specs.Answers.{Test, test, firstOf, widthTest, keptTest, countTest, longTest, keyTest, trayTest, matchTrayTest, wordTest, afterwards}
-use Rattle.digest.specs.Words.{digestAnswer}
+use Rattle.sums.specs.Bytes.{byteWidth}
+use Rattle.sums.proofs.Words.{both}
+use Rattle.sums.proofs.FromBytes.{byte-range}
+use Rattle.digest.specs.Answers.{Test, test, firstOf, widthTest, byteWidthTest, keptTest, countTest, longTest, keyTest, trayTest, matchTrayTest, wordTest, afterwards}
+use Rattle.digest.specs.Sizes.{sizeTests}
 
 module _ (ts : List Test) (a : ℕ) where
   -- a test that holds stops, one that does not is skipped
-  stop : (n : ℕ) {h : Bool} → h ≡ true → firstOf (test n h ∷ ts) a ≡ n
+  pub stop : (n : ℕ) {h : Bool} → h ≡ true → firstOf (test n h ∷ ts) a ≡ n
   unfolding firstOf
   stop n e = rw e
 
-  skip : (n : ℕ) {h : Bool} → h ≡ false → firstOf (test n h ∷ ts) a ≡ firstOf ts a
+  pub skip : (n : ℕ) {h : Bool} → h ≡ false → firstOf (test n h ∷ ts) a ≡ firstOf ts a
   unfolding firstOf
   skip n e = rw e
 
@@ -32,6 +35,18 @@ module _ (ts : List Test) (a : ℕ) where
   pub width-passes : (w : ℕ) → 1 ≤ w → w ≤ 32 → firstOf (widthTest w ∷ ts) a ≡ firstOf ts a
   unfolding widthTest
   width-passes w h k = skip 1 (rw (le-ltb w 1 h, le-ltb 32 w k))
+
+  pub byte-width-stops : (w : ℕ) → byteWidth w ≡ false → firstOf (byteWidthTest w ∷ ts) a ≡ 1
+  unfolding byteWidthTest
+  byte-width-stops w h = stop 1 (ap not h)
+
+  -- a byte width passes both tests of the width
+  pub byte-width-passes : (w : ℕ) → byteWidth w ≡ true → firstOf (byteWidthTest w ∷ ts) a ≡ firstOf (widthTest w ∷ ts) a
+  unfolding byteWidthTest
+  byte-width-passes w h = skip 1 (ap not h) ∙ sym (width-passes w (range .0) (range .1))
+    where
+      range : (1 ≤ w) × (w ≤ 32)
+      range = byte-range w h
 
   pub kept-none : (w b : ℕ) → b < 1 → firstOf (keptTest w b ∷ ts) a ≡ 2
   unfolding keptTest
@@ -119,39 +134,69 @@ holds : (a : Bool) → not a ≡ false → a ≡ true
 holds true e = refl
 holds false e = absurd (true≢false e)
 
--- what an accepted digest of words has passed
-pub record Accepted (w b n : ℕ) (ms ks out : List ℕ) : Type 0 where
+-- what a call has passed that no test of settings and lengths refuses
+pub record Sized (w b n t words places : ℕ) : Type 0 where
   pub width-low : 1 ≤ w
   pub width-high : w ≤ 32
   pub kept-high : b ≤ w
   pub count-low : 1 ≤ n
   pub count-high : n ≤ 8
-  pub long : length ms ≤ 65536
-  pub key-long : length ks ≡ length ms + n
-  pub room : n ≤ length out
-  pub fit : (fits w ms && fits w ks) ≡ true
+  pub long : t ≤ 65536
+  pub key-long : words ≡ t + n
+  pub room : n ≤ places
 
-pub accepted : (w b n : ℕ) (ms ks out : List ℕ) → digestAnswer w b n ms ks out ≡ 0 → Accepted w b n ms ks out
-unfolding digestAnswer widthTest keptTest countTest longTest keyTest trayTest wordTest
-accepted w b n ms ks out e =
+pub sized : (w b n t words places : ℕ) → firstOf (sizeTests w b n t words places) 0 ≡ 0 → Sized w b n t words places
+unfolding widthTest keptTest countTest longTest keyTest trayTest
+sized w b n t words places e =
     let p₁ = passed 0 _ _ e in
     let p₂ = passed 1 _ _ (p₁ .1) in
     let p₃ = passed 2 _ _ (p₂ .1) in
     let p₄ = passed 3 _ _ (p₃ .1) in
     let p₅ = passed 4 _ _ (p₄ .1) in
     let p₆ = passed 5 _ _ (p₅ .1) in
-    let p₇ = passed 6 _ _ (p₆ .1) in
     record {
       width-low = ltb-false w 1 (either (ltb w 1) (ltb 32 w) (p₁ .0) .0);
       width-high = ltb-false 32 w (either (ltb w 1) (ltb 32 w) (p₁ .0) .1);
       kept-high = ltb-false w b (either (eqb b 0) (ltb w b) (p₂ .0) .1);
       count-low = ltb-false n 1 (either (ltb n 1) (ltb 8 n) (p₃ .0) .0);
       count-high = ltb-false 8 n (either (ltb n 1) (ltb 8 n) (p₃ .0) .1);
-      long = ltb-false 65536 (length ms) (p₄ .0);
-      key-long = eqb-true (length ks) (length ms + n) (holds _ (p₅ .0));
-      room = ltb-false (length out) n (p₆ .0);
-      fit = holds _ (p₇ .0);
+      long = ltb-false 65536 t (p₄ .0);
+      key-long = eqb-true words (t + n) (holds _ (p₅ .0));
+      room = ltb-false places n (p₆ .0);
     }
+
+-- the tests of settings and lengths come first: where one of them refuses, it gives the answer
+pub sizes-refuse : (ts : List Test) (t : Test) → (firstOf ts 0 ≡ 0 → ⊥) → firstOf (ts ++ (t ∷ [])) 0 ≡ firstOf ts 0
+unfolding firstOf
+sizes-refuse [] t ne = absurd (ne refl)
+sizes-refuse (s ∷ ts) t ne = go (s .holds) refl (sizes-refuse ts t)
+  where
+    go : (h : Bool) → s .holds ≡ h → ((firstOf ts 0 ≡ 0 → ⊥) → firstOf (ts ++ (t ∷ [])) 0 ≡ firstOf ts 0)
+        → cond (s .holds) (s .number) (firstOf (ts ++ (t ∷ [])) 0) ≡ cond (s .holds) (s .number) (firstOf ts 0)
+    go true e rest = rw e
+    go false e rest = rw e (rest (λ z. ne (rw e z)))
+
+-- no number is 0
+positive : List Test → Bool
+positive [] = true
+positive (t ∷ ts) = ltb 0 (t .number) && positive ts
+
+-- where none of them refuses, the test after them gives the answer
+after-all : (ts : List Test) (t : Test) → T (positive ts) → firstOf ts 0 ≡ 0 → firstOf (ts ++ (t ∷ [])) 0 ≡ firstOf (t ∷ []) 0
+unfolding firstOf positive
+after-all [] t p e = refl
+after-all (s ∷ ts) t p e = go (s .holds) refl (after-all ts t (both (ltb 0 (s .number)) (positive ts) p .1))
+  where
+    go : (h : Bool) → s .holds ≡ h → (firstOf ts 0 ≡ 0 → firstOf (ts ++ (t ∷ [])) 0 ≡ firstOf (t ∷ []) 0)
+        → cond (s .holds) (s .number) (firstOf (ts ++ (t ∷ [])) 0) ≡ firstOf (t ∷ []) 0
+    go true h rest = absurd (omega (arith, ltb→lt 0 (s .number) (both (ltb 0 (s .number)) (positive ts) p .0), rw h at e))
+    go false h rest = rw h (rest (rw h at e))
+
+pub sizes-pass : (w b n t words places : ℕ) (last : Test)
+    → firstOf (sizeTests w b n t words places) 0 ≡ 0
+    → firstOf (sizeTests w b n t words places ++ (last ∷ [])) 0 ≡ firstOf (last ∷ []) 0
+unfolding positive widthTest keptTest countTest longTest keyTest trayTest
+sizes-pass w b n t words places last = after-all (sizeTests w b n t words places) last tt
 
 -- a lent row after a refusal, and after an accepted call
 pub refused-row : (answer : ℕ) (words old : List ℕ) → (answer ≡ 0 → ⊥) → afterwards answer words old ≡ old

@@ -1,4 +1,5 @@
 pub mod Fits
 pub mod Judged
+pub mod Outcome
 pub mod Written
 pub mod FalseMatch

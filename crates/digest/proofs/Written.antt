@@ -1,5 +1,6 @@
 -- The words of a digest as a loop writes them, one after the other.
 use mathlib.Core.Path.{_≡_, refl, sym, ap, _∙_}
+use mathlib.Core.Bool.{true}
 use mathlib.Core.List.{List, [], _∷_, _++_, append-assoc}
 use Prim.Native.Nat.{ℕ, zero, suc, _+_, _-_, _≤_, _<_}
 use native.Mathlib.Numerals.{add-one}
@@ -9,7 +10,9 @@ use lib.ListN.{length, getD, set, take, drop, length-append, length-drop}
 use lib.Seq.{drop-cons, set-at, take-all}
 use Rattle.sums.specs.Digest.{oneWord, fullWords, kept, digest}
 use Rattle.sums.specs.Leaf.{leafWord}
+use Rattle.sums.specs.Bytes.{wordsOf, byteWidth, leafBytes}
 use Rattle.sums.proofs.Leaf.{leaf-one}
+use Rattle.sums.proofs.FromBytes.{leaf-bytes}
 
 pub length-digest : (w b n : ℕ) (ms ks : List ℕ) → length (digest w b n ms ks) ≡ n
 unfolding digest fullWords
@@ -32,6 +35,11 @@ digest-snoc w b (suc n) ms ks =
 pub leaf-part : (w i : ℕ) (ms ks : List ℕ) → w ≤ 32 → leafWord w ms (take (length ks - i) (drop i ks)) ≡ oneWord w ms (drop i ks)
 leaf-part w i ms ks small =
     ap (leafWord w ms) (take-all (length ks - i) (drop i ks) (le-of-eq (length-drop i ks))) ∙ leaf-one w ms (drop i ks) small
+
+pub bytes-part : (w i : ℕ) (xs ks : List ℕ) → byteWidth w ≡ true → length (wordsOf w xs) + i < length ks
+    → leafBytes w xs (take (length ks - i) (drop i ks)) ≡ oneWord w (wordsOf w xs) (drop i ks)
+bytes-part w i xs ks h long =
+    ap (leafBytes w xs) (take-all (length ks - i) (drop i ks) (le-of-eq (length-drop i ks))) ∙ leaf-bytes w xs h (drop i ks) (omega (arith, length-drop i ks))
 
 -- a row whose first i places are written
 abbrev pub Written : ℕ → ℕ → ℕ → List ℕ → List ℕ → List ℕ → List ℕ → Type 0

@@ -5,6 +5,7 @@ use Prim.Native.Nat.{ℕ, _+_}
 use lib.Dec.{ltb, eqb}
 use lib.ListN.{length, drop}
 use Rattle.sums.specs.Digest.{fits}
+use Rattle.sums.specs.Bytes.{byteWidth}
 
 -- a row of the table: its number, and whether its condition holds of the call
 pub record Test : Type 0 where
@@ -22,6 +23,10 @@ firstOf (t ∷ ts) accepted = cond (t .holds) (t .number) (firstOf ts accepted)
 -- 1 Width: w is not 1..32
 unfoldable pub widthTest : ℕ → Test
 widthTest w = test 1 (ltb w 1 || ltb 32 w)
+
+-- 1 Width, in the byte digest: w is not 8, 16 or 32
+unfoldable pub byteWidthTest : ℕ → Test
+byteWidthTest w = test 1 (not (byteWidth w))
 
 -- 2 Kept: b is 0 or above w
 unfoldable pub keptTest : ℕ → ℕ → Test

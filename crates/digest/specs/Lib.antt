@@ -1,3 +1,5 @@
 pub mod Answers
 pub mod Words
+pub mod Bytes
 pub mod Match
+pub mod Sizes

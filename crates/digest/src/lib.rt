@@ -1,5 +1,7 @@
-// The digest of words, and the match of two digests.
+// The digest of words and of bytes, and the match of two digests.
 pub mod answers;
+pub mod bytes;
 pub mod matching;
 pub mod range;
+pub mod sizes;
 pub mod words;

@@ -25,3 +25,10 @@ pub fn words_fit(w: u32, message: &[u32], key: &[u32]) -> bool
     let bits = all_bits(message) | all_bits(key);
     sums::below(w, bits)
 }
+
+// Whether every word of one row is below 2^w.
+pub fn row_fits(w: u32, row: &[u32]) -> bool
+    ensures { λ r. ⌜ r ≡ fits w (now (row .entry)) ⌝ }
+{
+    sums::below(w, all_bits(row))
+}

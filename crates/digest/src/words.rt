@@ -1,12 +1,13 @@
 // The digest of words.
 ghost use mathlib.Core.Path.{_≡_};
 ghost use mathlib.Core.List.{_++_};
-ghost use Prim.Native.Nat.{_+_, _≤_};
+ghost use Prim.Native.Nat.{_≤_};
 ghost use lib.ListN.{length, drop};
 ghost use Rattle.sums.specs.Digest.{digest};
 ghost use Rattle.digest.specs.Words.{digestAnswer, digestRow};
 use crate::answers;
 use crate::range::words_fit;
+use crate::sizes::judge;
 
 // The digest of the message under the key into the first n places of out, or the number of the first test that refuses it.
 pub fn digest_words(w: u32, b: u32, n: u32, message: &[u32], key: &[u32], out: &mut [u32]) -> u32
@@ -15,46 +16,12 @@ pub fn digest_words(w: u32, b: u32, n: u32, message: &[u32], key: &[u32], out: &
         × (now (out .exit) ≡ digestRow w b n (now (message .entry)) (now (key .entry)) (now (out .entry)))
         ⌝ }
 {
-    let answer = judge(w, b, n, message, key, out);
+    let answer = judge(w, b, n, message.len(), key.len(), out.len());
     if answer != 0 {
         return answer;
     }
-    write_words(w, b, n, message, key, out);
-    0
-}
-
-// The first test that refuses the call, else 0.
-fn judge(w: u32, b: u32, n: u32, message: &[u32], key: &[u32], out: &[u32]) -> u32
-    ensures { λ r. ⌜ r ≡ digestAnswer w b n (now (message .entry)) (now (key .entry)) (now (out .entry)) ⌝ }
-{
-    if w < 1 {
-        return answers::WIDTH;
-    }
-    if 32 < w {
-        return answers::WIDTH;
-    }
-    if b < 1 {
-        return answers::KEPT;
-    }
-    if w < b {
-        return answers::KEPT;
-    }
-    if n < 1 {
-        return answers::COUNT;
-    }
-    if 8 < n {
-        return answers::COUNT;
-    }
-    if answers::MOST_WORDS < message.len() {
-        return answers::LONG;
-    }
-    if key.len() != message.len() + n as usize {
-        return answers::KEY;
-    }
-    if out.len() < n as usize {
-        return answers::TRAY;
-    }
     if words_fit(w, message, key) {
+        write_words(w, b, n, message, key, out);
         return 0;
     }
     answers::WORD

@@ -16,7 +16,7 @@ use Rattle.sums.specs.Corollaries.{CollisionBoundInRange, ExactCountInRa
 use Rattle.sums.proofs.Sums.{sum-cong}
 use Rattle.sums.proofs.Rows.{rows-cong, rows-mul, rows-one}
 use Rattle.sums.proofs.Congruent.{eqb-same, at-one}
-use Rattle.sums.proofs.Words.{both, both-number, fits-cons}
+use Rattle.sums.proofs.Words.{both, join, both-number, fits-cons}
 use Rattle.sums.proofs.Demand3.{collision-bound, exact-count}
 
 pub collision-bound-in-range : CollisionBoundInRange
@@ -26,10 +26,6 @@ collision-bound-in-range w b n t r = collision-bound w b n t (r .kept)
 pub exact-count-in-range : ExactCountInRange
 unfolding ExactCountInRange ExactCount
 exact-count-in-range w b n t r = exact-count w b n t (r .kept)
-
-join : (a b : Bool) → T a → T b → T (a && b)
-join true b s t = t
-join false b s t = s
 
 same-equal : (xs ys : List ℕ) → T (sameRow xs ys) → xs ≡ ys
 unfolding sameRow

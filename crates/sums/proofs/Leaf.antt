@@ -21,11 +21,14 @@ module _ (w : ℕ) (ms ks : List ℕ) (fits : w ≤ 32) where
   leaf-one = rw (le-leb w 32 fits)
 
   -- the sum may be reduced modulo 2^64 first
-  pub leaf-long : leafWord w ms ks ≡ wholeSum w ms ks % 2 ^ 64 % 2 ^ w
+  pub reduced-twice : oneWord w ms ks ≡ wholeSum w ms ks % 2 ^ 64 % 2 ^ w
   unfolding oneWord
-  leaf-long =
+  reduced-twice =
       let e : 64 - w + w ≡ 64 = omega arith in
-      leaf-one ∙ sym (rw e at (mod-mod-pow (wholeSum w ms ks) (64 - w) w))
+      sym (rw e at (mod-mod-pow (wholeSum w ms ks) (64 - w) w))
+
+  pub leaf-long : leafWord w ms ks ≡ wholeSum w ms ks % 2 ^ 64 % 2 ^ w
+  leaf-long = leaf-one ∙ reduced-twice
 
   -- the word over the last key word adds one product, and those after it nothing
   pub leaf-short : (n : ℕ) → length ks ≡ suc n → n < length ms

@@ -12,3 +12,4 @@ pub mod Corollaries
 pub mod Laws
 pub mod Left
 pub mod Leaf
+pub mod FromBytes

@@ -19,6 +19,10 @@ pub both : (a b : Bool) → T (a && b) → T a × T b
 both true b t = (tt, t)
 both false b t = absurd t
 
+pub join : (a b : Bool) → T a → T b → T (a && b)
+join true b s t = t
+join false b s t = s
+
 pub fits-cons : (w x : ℕ) (xs : List ℕ) → T (fits w (x ∷ xs)) → (x < 2 ^ w) × T (fits w xs)
 unfolding fits
 fits-cons w x xs t =

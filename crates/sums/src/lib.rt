@@ -1,4 +1,6 @@
 // The one-word sum of the digest. Everything that digests a message runs through its loop.
+pub mod bytes;
+
 ghost use mathlib.Core.Path.{_≡_};
 ghost use Prim.Native.Nat.{_+_, _*_, _/_, _%_, _^_, _≤_, _<_};
 ghost use lib.ListN.{length};

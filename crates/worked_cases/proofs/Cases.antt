@@ -11,9 +11,11 @@ use Rattle.sums.specs.Digest.{fits, wholeSum, oneWord, fullWords, kept, digest}
 use Rattle.sums.specs.Count.{sumTo, overRows, asNumber, count, sameRow, every, differBy}
 use Rattle.sums.specs.Claims.{keysThatDiffer, keysThatGive}
 use Rattle.sums.specs.Corollaries.{RowTest}
+use Rattle.sums.specs.Bytes.{littleEndian, wordsFrom, countOf, wordsOf}
+use Rattle.mt19937.specs.Published.{table, following, newWord, newWords}
 use Rattle.digest.specs.Answers.{firstOf, widthTest, keptTest, countTest, longTest, keyTest, trayTest, wordTest, afterwards}
 use Rattle.digest.specs.Words.{digestAnswer, digestRow}
-use Rattle.worked_cases.specs.Cases.{Case, case, called, table}
+use Rattle.worked_cases.specs.Cases.{Case, case, called, cases}
 use Rattle.sums.proofs.Words.{both}
 use Rattle.sums.proofs.Corollaries.{row-test}
 
@@ -27,6 +29,6 @@ agree-at [] t i lt = absurd (not-suc-le-zero lt)
 agree-at (c ∷ cs) t zero lt = row-test (c .given) (c .written) .0 (both (sameRow (c .given) (c .written)) (agree cs) t .0)
 agree-at (c ∷ cs) t (suc i) lt = agree-at cs (both (sameRow (c .given) (c .written)) (agree cs) t .1) i (le-of-suc-le-suc lt)
 
-pub every-case : (i : ℕ) → i < length table → getD table i (case [] []) .given ≡ getD table i (case [] []) .written
-unfolding agree table called digestAnswer digestRow firstOf widthTest keptTest countTest longTest keyTest trayTest wordTest afterwards fits wholeSum oneWord fullWords kept digest sumTo overRows asNumber count sameRow every differBy keysThatDiffer keysThatGive
-every-case = agree-at table tt
+pub every-case : (i : ℕ) → i < length cases → getD cases i (case [] []) .given ≡ getD cases i (case [] []) .written
+unfolding agree cases called wordsOf wordsFrom countOf littleEndian newWords table newWord following digestAnswer digestRow firstOf widthTest keptTest countTest longTest keyTest trayTest wordTest afterwards fits wholeSum oneWord fullWords kept digest sumTo overRows asNumber count sameRow every differBy keysThatDiffer keysThatGive
+every-case = agree-at cases tt

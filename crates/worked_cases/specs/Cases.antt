@@ -3,7 +3,9 @@ use mathlib.Core.List.{List, [], _∷_}
 use Prim.Native.Nat.{ℕ}
 use lib.ListN.{replicate}
 use Rattle.sums.specs.Claims.{keysThatDiffer, keysThatGive}
+use Rattle.sums.specs.Bytes.{wordsOf}
 use Rattle.digest.specs.Words.{digestAnswer, digestRow}
+use Rattle.mt19937.specs.Published.{newWords}
 
 -- a row: the numbers that the definitions give, and those of the document
 pub record Case : Type 0 where
@@ -41,6 +43,10 @@ caseE = case (called 32 32 1 (0xffff_ffff ∷ []) (0xffff_ffff ∷ 0xffff_ffff �
 abbrev pub caseF : Case
 caseF = case (called 8 8 1 [] (7 ∷ [])) (0 ∷ 0x00 ∷ [])
 
+-- H: bytes 01 02 03 at width 16 are the words 0x0201 0x0003
+abbrev pub caseH : Case
+caseH = case (wordsOf 16 (0x01 ∷ 0x02 ∷ 0x03 ∷ [])) (0x0201 ∷ 0x0003 ∷ [])
+
 -- I: w 2, t 1, n 1, b 2: messages 1 and 3 agree under 6 of 16 keys
 abbrev pub caseI : Case
 caseI = case (keysThatDiffer 2 2 1 1 (1 ∷ []) (3 ∷ []) (0 ∷ []) ∷ []) (6 ∷ [])
@@ -56,5 +62,9 @@ caseJ =
     ∷ [])
     (4 ∷ 4 ∷ 4 ∷ 4 ∷ [])
 
-unfoldable pub table : List Case
-table = caseA ∷ caseB ∷ caseC ∷ caseD ∷ caseE ∷ caseF ∷ caseI ∷ caseJ ∷ []
+-- K: seed 0 makes state words 0, 1, 1812433255 first
+abbrev pub caseK : Case
+caseK = case (newWords 0 3) (0 ∷ 1 ∷ 1812433255 ∷ [])
+
+unfoldable pub cases : List Case
+cases = caseA ∷ caseB ∷ caseC ∷ caseD ∷ caseE ∷ caseF ∷ caseH ∷ caseI ∷ caseJ ∷ caseK ∷ []

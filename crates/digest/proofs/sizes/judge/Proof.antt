@@ -1,61 +1,42 @@
--- `digest::words::judge` meets its contract: each return is the first test that holds.
-use mathlib.Core.Path.{sym, _∙_}
+-- `digest::sizes::judge` meets its contract: each return is the first test that holds.
 use native.Mathlib.Omega.{arith}
-use Rattle.digest.specs.Words.{digestAnswer}
 use Rattle.digest.proofs.Judged.{judged}
 use borrow.Author.Needs.{needs}
-use Rattle.digest.proofs.words.judge.Statement.{statement}
-use Rattle.digest.proofs.words.judge.Tie as tie
+use Rattle.digest.proofs.sizes.judge.Statement.{statement}
+use Rattle.digest.proofs.sizes.judge.Tie as tie
 
 returns : tie.Need-returns
-unfolding digestAnswer
 returns c = search (judged, arith) depth 9
 
 returns-2 : tie.Need-returns-2
-unfolding digestAnswer
 returns-2 c = search (judged, arith) depth 9
 
 returns-3 : tie.Need-returns-3
-unfolding digestAnswer
 returns-3 c = search (judged, arith) depth 9
 
 returns-4 : tie.Need-returns-4
-unfolding digestAnswer
 returns-4 c = search (judged, arith) depth 9
 
 returns-5 : tie.Need-returns-5
-unfolding digestAnswer
 returns-5 c = search (judged, arith) depth 9
 
 returns-6 : tie.Need-returns-6
-unfolding digestAnswer
 returns-6 c = search (judged, arith) depth 9
 
 returns-7 : tie.Need-returns-7
-unfolding digestAnswer
 returns-7 c = search (judged, arith) depth 9
 
 add-if8 : tie.Need-add-if8
 add-if8 c = search needs
 
 returns-8 : tie.Need-returns-8
-unfolding digestAnswer
 returns-8 c = search (judged, arith) depth 9
 
 returns-9 : tie.Need-returns-9
-unfolding digestAnswer
 returns-9 c = search (judged, arith) depth 9
 
-words-fit-requires : tie.Need-words-fit-requires
-words-fit-requires c κs = search needs
-
 returns-10 : tie.Need-returns-10
-unfolding digestAnswer
-returns-10 c = let fit = sym (c .before .words-fit .ensures) ∙ c .if10 .taken in search (judged, arith) depth 9
-
-returns-11 : tie.Need-returns-11
-unfolding digestAnswer
-returns-11 c = let unfit = sym (c .before .words-fit .ensures) ∙ c .if10 .left in search (judged, arith) depth 9
+returns-10 c = search (judged, arith) depth 9
 
 pub judge-spec : {M : Type 1} → statement M
 judge-spec =
@@ -71,6 +52,4 @@ judge-spec =
     add-if8
     returns-8
     returns-9
-    words-fit-requires
-    returns-10
-    returns-11)
+    returns-10)
