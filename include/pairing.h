@@ -1,11 +1,12 @@
 /*
  * The proved pairing toolkit, for C and C++ on x86-64.
  *
- * A row of words is lent as a pointer and its count of words.
+ * A row of words is lent as a pointer and its count of words, a row of bytes as a
+ * pointer and its count of bytes.
  *
  * The caller's premises, on which every promise rests:
- *   - each pointer is aligned, not null, and stands at as many words as its count
- *     says (at a count of 0 any aligned pointer that is not null will do);
+ *   - each pointer is aligned, not null, and stands at as many words or bytes
+ *     as its count says (at a count of 0 any aligned pointer that is not null will do);
  *   - an output row overlaps no other row of the same call, and nothing else
  *     writes a lent row while the call runs.
  * Nothing is asked of any number or word: a call that is not fit is refused.
@@ -28,13 +29,14 @@ extern "C" {
 enum {
     /* Accepted: the output is written. */
     PAIRING_ACCEPTED = 0,
-    /* Width: w is not 1 to 32. */
+    /* Width: w is not 1 to 32; in the byte digest, not 8, 16 or 32. */
     PAIRING_WIDTH = 1,
     /* Kept: b is 0 or more than w. */
     PAIRING_KEPT = 2,
     /* Count: n is not 1 to 8. */
     PAIRING_COUNT = 3,
-    /* Long: the message has more than PAIRING_MOST_WORDS words. */
+    /* Long: the message has more than PAIRING_MOST_WORDS words; a stretch, more
+     * than PAIRING_MOST_KEY_WORDS. */
     PAIRING_LONG = 4,
     /* Key: the key does not have n words more than the message. */
     PAIRING_KEY = 5,
@@ -51,6 +53,9 @@ enum {
 /* The most message words of one digest. */
 #define PAIRING_MOST_WORDS 65536
 
+/* The most words of one stretch: a key for the longest message. */
+#define PAIRING_MOST_KEY_WORDS 65544
+
 /* The most words that a digest has, and so the largest n. */
 #define PAIRING_MOST_DIGEST_WORDS 8
 
@@ -66,6 +71,25 @@ uint32_t pairing_digest_words(uint32_t w, uint32_t b, uint32_t n,
                               const uint32_t *message, size_t message_words,
                               const uint32_t *key, size_t key_words,
                               uint32_t *out, size_t out_words);
+
+/*
+ * Digests the words that the message's bytes make: the first byte lowest in its
+ * word, the last word filled up with zero bytes. w is 8, 16 or 32; the key has n
+ * words more than the message then has. Answers and output as above.
+ */
+uint32_t pairing_digest_bytes(uint32_t w, uint32_t b, uint32_t n,
+                              const uint8_t *message, size_t message_bytes,
+                              const uint32_t *key, size_t key_words,
+                              uint32_t *out, size_t out_words);
+
+/*
+ * Fills the whole of out with key words of w bits, each the low bits of the next
+ * output of MT19937 made new from the seed.
+ *
+ * Answers PAIRING_ACCEPTED; or PAIRING_WIDTH, or PAIRING_LONG where out has more
+ * than PAIRING_MOST_KEY_WORDS places.
+ */
+uint32_t pairing_stretch(uint32_t w, uint32_t seed, uint32_t *out, size_t out_words);
 
 /*
  * Compares two digests of n words.

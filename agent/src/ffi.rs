@@ -21,6 +21,20 @@ mod entry {
             out_words: usize,
         ) -> u32;
 
+        pub fn pairing_digest_bytes(
+            w: u32,
+            b: u32,
+            n: u32,
+            message: *const u8,
+            message_bytes: usize,
+            key: *const u32,
+            key_words: usize,
+            out: *mut u32,
+            out_words: usize,
+        ) -> u32;
+
+        pub fn pairing_stretch(w: u32, seed: u32, out: *mut u32, out_words: usize) -> u32;
+
         pub fn pairing_match(
             n: u32,
             first: *const u32,
@@ -48,6 +62,32 @@ pub fn digest_words(w: u32, b: u32, n: u32, message: &[u32], key: &[u32], out: &
             out.len(),
         )
     }
+}
+
+/// The number that `pairing_digest_bytes` answers: 0 with the digest in `out`, or a refusal's.
+#[must_use]
+pub fn digest_bytes(w: u32, b: u32, n: u32, message: &[u8], key: &[u32], out: &mut [u32]) -> u32 {
+    // SAFETY: each pointer and length is one slice's; `out` is borrowed apart from the others.
+    unsafe {
+        entry::pairing_digest_bytes(
+            w,
+            b,
+            n,
+            message.as_ptr(),
+            message.len(),
+            key.as_ptr(),
+            key.len(),
+            out.as_mut_ptr(),
+            out.len(),
+        )
+    }
+}
+
+/// The number that `pairing_stretch` answers: 0 with the whole of `out` filled, or a refusal's.
+#[must_use]
+pub fn stretch(w: u32, seed: u32, out: &mut [u32]) -> u32 {
+    // SAFETY: the pointer and the length are one slice's.
+    unsafe { entry::pairing_stretch(w, seed, out.as_mut_ptr(), out.len()) }
 }
 
 /// The number that `pairing_match` answers: 100 for yes, 101 for no, or a refusal's.

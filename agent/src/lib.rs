@@ -40,6 +40,35 @@ pub fn digest_words(
     written(ffi::digest_words(w, b, n, message, key, out))
 }
 
+/// Writes the digest of the words that the bytes of `message` make into the first `n` places of `out`.
+///
+/// The width is 8, 16 or 32. Bytes fill words with the first byte lowest, and zero bytes fill up
+/// the last. The key has `n` words more than the message then has.
+///
+/// # Errors
+///
+/// `Width` to `Word`, as the library's tests find; `out` then holds what it held.
+pub fn digest_bytes(
+    w: u32,
+    b: u32,
+    n: u32,
+    message: &[u8],
+    key: &[u32],
+    out: &mut [u32],
+) -> Result<(), Refusal> {
+    written(ffi::digest_bytes(w, b, n, message, key, out))
+}
+
+/// Fills the whole of `key` with words of `w` bits, each from the next output of MT19937 made new
+/// from `seed`.
+///
+/// # Errors
+///
+/// `Width`, or `Long` for more than 65,544 words; `key` then holds what it held.
+pub fn stretch(w: u32, seed: u32, key: &mut [u32]) -> Result<(), Refusal> {
+    written(ffi::stretch(w, seed, key))
+}
+
 /// Whether two digests of `n` words agree at every place.
 ///
 /// # Errors
