@@ -12,7 +12,7 @@ use Rattle.sums.specs.Bytes.{byteWidth}
 use Rattle.sums.proofs.Words.{both}
 use Rattle.sums.proofs.FromBytes.{byte-range}
 use Rattle.digest.specs.Answers.{Test, test, firstOf, widthTest, byteWidthTest, keptTest, countTest, longTest, keyTest, trayTest, matchTrayTest, wordTest, afterwards}
-use Rattle.digest.specs.Sizes.{sizeTests}
+use Rattle.digest.specs.Sizes.{settingTests, sizeTests}
 
 module _ (ts : List Test) (a : ℕ) where
   -- a test that holds stops, one that does not is skipped
@@ -165,14 +165,14 @@ sized w b n t words places e =
       room = ltb-false places n (p₆ .0);
     }
 
--- the tests of settings and lengths come first: where one of them refuses, it gives the answer
-pub sizes-refuse : (ts : List Test) (t : Test) → (firstOf ts 0 ≡ 0 → ⊥) → firstOf (ts ++ (t ∷ [])) 0 ≡ firstOf ts 0
+-- tests that come first: where one of them refuses, it gives the answer
+pub first-refuse : (ts us : List Test) → (firstOf ts 0 ≡ 0 → ⊥) → firstOf (ts ++ us) 0 ≡ firstOf ts 0
 unfolding firstOf
-sizes-refuse [] t ne = absurd (ne refl)
-sizes-refuse (s ∷ ts) t ne = go (s .holds) refl (sizes-refuse ts t)
+first-refuse [] us ne = absurd (ne refl)
+first-refuse (s ∷ ts) us ne = go (s .holds) refl (first-refuse ts us)
   where
-    go : (h : Bool) → s .holds ≡ h → ((firstOf ts 0 ≡ 0 → ⊥) → firstOf (ts ++ (t ∷ [])) 0 ≡ firstOf ts 0)
-        → cond (s .holds) (s .number) (firstOf (ts ++ (t ∷ [])) 0) ≡ cond (s .holds) (s .number) (firstOf ts 0)
+    go : (h : Bool) → s .holds ≡ h → ((firstOf ts 0 ≡ 0 → ⊥) → firstOf (ts ++ us) 0 ≡ firstOf ts 0)
+        → cond (s .holds) (s .number) (firstOf (ts ++ us) 0) ≡ cond (s .holds) (s .number) (firstOf ts 0)
     go true e rest = rw e
     go false e rest = rw e (rest (λ z. ne (rw e z)))
 
@@ -181,22 +181,26 @@ positive : List Test → Bool
 positive [] = true
 positive (t ∷ ts) = ltb 0 (t .number) && positive ts
 
--- where none of them refuses, the test after them gives the answer
-after-all : (ts : List Test) (t : Test) → T (positive ts) → firstOf ts 0 ≡ 0 → firstOf (ts ++ (t ∷ [])) 0 ≡ firstOf (t ∷ []) 0
+-- where none of them refuses, the tests after them give the answer
+after-all : (ts us : List Test) → T (positive ts) → firstOf ts 0 ≡ 0 → firstOf (ts ++ us) 0 ≡ firstOf us 0
 unfolding firstOf positive
-after-all [] t p e = refl
-after-all (s ∷ ts) t p e = go (s .holds) refl (after-all ts t (both (ltb 0 (s .number)) (positive ts) p .1))
+after-all [] us p e = refl
+after-all (s ∷ ts) us p e = go (s .holds) refl (after-all ts us (both (ltb 0 (s .number)) (positive ts) p .1))
   where
-    go : (h : Bool) → s .holds ≡ h → (firstOf ts 0 ≡ 0 → firstOf (ts ++ (t ∷ [])) 0 ≡ firstOf (t ∷ []) 0)
-        → cond (s .holds) (s .number) (firstOf (ts ++ (t ∷ [])) 0) ≡ firstOf (t ∷ []) 0
+    go : (h : Bool) → s .holds ≡ h → (firstOf ts 0 ≡ 0 → firstOf (ts ++ us) 0 ≡ firstOf us 0)
+        → cond (s .holds) (s .number) (firstOf (ts ++ us) 0) ≡ firstOf us 0
     go true h rest = absurd (omega (arith, ltb→lt 0 (s .number) (both (ltb 0 (s .number)) (positive ts) p .0), rw h at e))
     go false h rest = rw h (rest (rw h at e))
 
-pub sizes-pass : (w b n t words places : ℕ) (last : Test)
+pub settings-pass : (w b n : ℕ) (us : List Test) → firstOf (settingTests w b n) 0 ≡ 0 → firstOf (settingTests w b n ++ us) 0 ≡ firstOf us 0
+unfolding positive widthTest keptTest countTest
+settings-pass w b n us = after-all (settingTests w b n) us tt
+
+pub sizes-pass : (w b n t words places : ℕ) (us : List Test)
     → firstOf (sizeTests w b n t words places) 0 ≡ 0
-    → firstOf (sizeTests w b n t words places ++ (last ∷ [])) 0 ≡ firstOf (last ∷ []) 0
+    → firstOf (sizeTests w b n t words places ++ us) 0 ≡ firstOf us 0
 unfolding positive widthTest keptTest countTest longTest keyTest trayTest
-sizes-pass w b n t words places last = after-all (sizeTests w b n t words places) last tt
+sizes-pass w b n t words places us = after-all (sizeTests w b n t words places) us tt
 
 -- a lent row after a refusal, and after an accepted call
 pub refused-row : (answer : ℕ) (words old : List ℕ) → (answer ≡ 0 → ⊥) → afterwards answer words old ≡ old

@@ -10,7 +10,7 @@ use Rattle.sums.specs.Bytes.{wordsOf, byteWidth}
 use Rattle.digest.specs.Answers.{Test, test, firstOf, wordTest, afterwards}
 use Rattle.digest.specs.Bytes.{bytesAnswer}
 use Rattle.digest.specs.Sizes.{sizeTests}
-use Rattle.digest.proofs.Judged.{stop, skip, none-holds, byte-width-stops, byte-width-passes, sizes-refuse, sizes-pass, refused-row, accepted-row}
+use Rattle.digest.proofs.Judged.{stop, skip, none-holds, byte-width-stops, byte-width-passes, first-refuse, sizes-pass, refused-row, accepted-row}
 
 -- an answer and a row as promised, for a call whose accepted outcome writes the words ws
 abbrev pub Promised : ℕ → List ℕ → List ℕ → ℕ → List ℕ → Type 0
@@ -29,12 +29,12 @@ module _ (w b n t words places : ℕ) (ws old : List ℕ) (unfit : Bool) (r : �
 
   pub by-size : (r ≡ 0 → ⊥) → Promised answer ws old r old
   by-size ne =
-      let e : answer ≡ r = sizes-refuse (sizeTests w b n t words places) last (λ z. ne (judged ∙ z)) ∙ sym judged in
+      let e : answer ≡ r = first-refuse (sizeTests w b n t words places) (last ∷ []) (λ z. ne (judged ∙ z)) ∙ sym judged in
       (sym e, sym (refused-row answer ws old (λ z. ne (sym e ∙ z))))
 
   pub by-word : r ≡ 0 → unfit ≡ true → Promised answer ws old 7 old
   by-word z h =
-      let e : answer ≡ 7 = sizes-pass w b n t words places last (sym judged ∙ z) ∙ stop [] 0 7 h in
+      let e : answer ≡ 7 = sizes-pass w b n t words places (last ∷ []) (sym judged ∙ z) ∙ stop [] 0 7 h in
       (sym e, sym (refused-row answer ws old (λ o. seven (sym e ∙ o))))
     where
       seven : _≡_ {A = ℕ} 7 0 → ⊥
@@ -42,7 +42,7 @@ module _ (w b n t words places : ℕ) (ws old : List ℕ) (unfit : Bool) (r : �
 
   pub by-writing : r ≡ 0 → unfit ≡ false → length ws ≡ n → (row : List ℕ) → row ≡ ws ++ drop n old → Promised answer ws old 0 row
   by-writing z h long row wrote =
-      let e : answer ≡ 0 = sizes-pass w b n t words places last (sym judged ∙ z) ∙ skip [] 0 7 h ∙ none-holds 0 in
+      let e : answer ≡ 0 = sizes-pass w b n t words places (last ∷ []) (sym judged ∙ z) ∙ skip [] 0 7 h ∙ none-holds 0 in
       (sym e, wrote ∙ ap (λ (k : ℕ). ws ++ drop k old) (sym long) ∙ sym (accepted-row answer ws old e))
 
 -- the byte digest's answer is that of its words, once the width is a byte width
