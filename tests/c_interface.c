@@ -1,4 +1,4 @@
-/* Calls both entries of include/pairing.h from C. Ends as Rust's test harness does, so that the gate can add it up. */
+/* Calls every entry of include/pairing.h from C. Ends as Rust's test harness does, so that the gate can add it up. */
 #include "pairing.h"
 
 #include <stdio.h>
@@ -93,6 +93,111 @@ static int refused_word(void)
     return refused(PAIRING_WORD, 8, 8, 1, 3, 4, 3) && refused(PAIRING_WORD, 8, 8, 3, 2, 5, 3);
 }
 
+/* Bytes 01 02 03 are the words 0x0201 0x0003. */
+static int bytes_accepted(void)
+{
+    const uint8_t bytes[] = {0x01, 0x02, 0x03};
+    const uint32_t words[] = {0x0201, 0x0003};
+    uint32_t out[] = {1, 2, 3}, due[] = {1, 2, 3};
+    uint32_t answer = pairing_digest_bytes(16, 16, 2, bytes, WORDS(bytes), key, WORDS(key), out, WORDS(out));
+    uint32_t answer_due = pairing_digest_words(16, 16, 2, words, WORDS(words), key, WORDS(key), due, WORDS(due));
+    return answer == PAIRING_ACCEPTED && answer_due == PAIRING_ACCEPTED && memcmp(out, due, sizeof due) == 0 &&
+           out[2] == 3;
+}
+
+/* Under the key 1 0 a digest word is the message word. */
+static int bytes_lowest_first(void)
+{
+    const uint8_t bytes[] = {0x81, 0x92, 0xa3, 0xb4};
+    const uint32_t one_zero[] = {1, 0};
+    const uint32_t due[] = {0x81, 0x9281, 0xa39281, 0xb4a39281};
+    size_t i;
+    for (i = 0; i < WORDS(due); i++) {
+        uint32_t out = 9;
+        if (pairing_digest_bytes(32, 32, 1, bytes, i + 1, one_zero, 2, &out, 1) != PAIRING_ACCEPTED || out != due[i])
+            return 0;
+    }
+    return 1;
+}
+
+static int bytes_accepted_without_a_message(void)
+{
+    const uint8_t byte = 5;
+    const uint32_t seven = 7;
+    uint32_t out[] = {9, 9};
+    uint32_t answer = pairing_digest_bytes(8, 8, 1, &byte, 0, &seven, 1, out, WORDS(out));
+    return answer == PAIRING_ACCEPTED && out[0] == 0 && out[1] == 9;
+}
+
+/* Widths 8, 16 and 32: the most words pass, a byte more does not. */
+static int bytes_at_the_most_words(void)
+{
+    static uint8_t bytes[4 * PAIRING_MOST_WORDS + 1];
+    static uint32_t zeros[PAIRING_MOST_WORDS + 1];
+    size_t word;
+    for (word = 1; word <= 4; word *= 2) {
+        uint32_t w = 8 * (uint32_t)word, out = 9;
+        size_t most = word * PAIRING_MOST_WORDS;
+        if (pairing_digest_bytes(w, w, 1, bytes, most + 1, zeros, WORDS(zeros), &out, 1) != PAIRING_LONG || out != 9)
+            return 0;
+        if (pairing_digest_bytes(w, w, 1, bytes, most, zeros, WORDS(zeros), &out, 1) != PAIRING_ACCEPTED || out != 0)
+            return 0;
+    }
+    return 1;
+}
+
+static int bytes_refused(void)
+{
+    static const struct {
+        uint32_t due, w, b, n;
+        size_t message_bytes, key_words, out_words;
+    } calls[] = {
+        {PAIRING_WIDTH, 0, 0, 2, 3, 4, 3},  {PAIRING_WIDTH, 24, 8, 2, 3, 3, 3}, {PAIRING_WIDTH, 33, 8, 2, 3, 3, 3},
+        {PAIRING_KEPT, 16, 0, 2, 3, 4, 3},  {PAIRING_KEPT, 16, 17, 2, 3, 4, 3}, {PAIRING_COUNT, 16, 8, 0, 3, 2, 3},
+        {PAIRING_COUNT, 16, 8, 9, 3, 4, 3}, {PAIRING_KEY, 16, 8, 2, 3, 3, 3},   {PAIRING_KEY, 16, 8, 2, 3, 5, 3},
+        {PAIRING_TRAY, 16, 8, 2, 3, 4, 1},  {PAIRING_TRAY, 16, 8, 2, 3, 4, 0},  {PAIRING_WORD, 8, 8, 2, 3, 5, 3},
+    };
+    const uint8_t bytes[] = {255, 255, 255};
+    const uint32_t keys[] = {10, 20, 100, 250, 256}, before[] = {11, 12, 13};
+    uint32_t out[] = {11, 12, 13};
+    size_t i;
+    for (i = 0; i < WORDS(calls); i++) {
+        uint32_t answer = pairing_digest_bytes(calls[i].w, calls[i].b, calls[i].n, bytes, calls[i].message_bytes, keys,
+                                               calls[i].key_words, out, calls[i].out_words);
+        if (answer != calls[i].due || memcmp(out, before, sizeof before) != 0)
+            return 0;
+    }
+    return 1;
+}
+
+/* The C++ standard fixes output 10,000 of seed 5489. */
+static int stretched(void)
+{
+    static uint32_t row[10001];
+    row[10000] = 9;
+    return pairing_stretch(32, 5489, row, 10000) == PAIRING_ACCEPTED && row[9999] == 4123659995u && row[10000] == 9 &&
+           pairing_stretch(16, 5489, row, 10000) == PAIRING_ACCEPTED && row[9999] == 4123659995u % 65536 &&
+           row[10000] == 9;
+}
+
+static int stretched_to_the_most_words(void)
+{
+    static uint32_t row[PAIRING_MOST_KEY_WORDS + 1];
+    static const uint32_t zeros[PAIRING_MOST_KEY_WORDS + 1];
+    if (pairing_stretch(32, 1, row, WORDS(row)) != PAIRING_LONG || memcmp(row, zeros, sizeof zeros) != 0)
+        return 0;
+    return pairing_stretch(32, 1, row, PAIRING_MOST_KEY_WORDS) == PAIRING_ACCEPTED && row[0] == 1791095845 &&
+           row[PAIRING_MOST_KEY_WORDS] == 0;
+}
+
+static int stretch_refused(void)
+{
+    uint32_t row[] = {11, 12};
+    return pairing_stretch(0, 1, row, WORDS(row)) == PAIRING_WIDTH &&
+           pairing_stretch(33, 1, row, WORDS(row)) == PAIRING_WIDTH && row[0] == 11 && row[1] == 12 &&
+           pairing_stretch(1, 1, row, 0) == PAIRING_ACCEPTED && row[0] == 11 && row[1] == 12;
+}
+
 static int match(void)
 {
     const uint32_t same[] = {3, 7};
@@ -128,6 +233,14 @@ static const struct {
     {"refused_key", refused_key},
     {"refused_tray", refused_tray},
     {"refused_word", refused_word},
+    {"bytes_accepted", bytes_accepted},
+    {"bytes_lowest_first", bytes_lowest_first},
+    {"bytes_accepted_without_a_message", bytes_accepted_without_a_message},
+    {"bytes_at_the_most_words", bytes_at_the_most_words},
+    {"bytes_refused", bytes_refused},
+    {"stretched", stretched},
+    {"stretched_to_the_most_words", stretched_to_the_most_words},
+    {"stretch_refused", stretch_refused},
     {"match", match},
     {"no_match", no_match},
     {"match_refused", match_refused},

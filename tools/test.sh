@@ -34,6 +34,14 @@ run() {
     done
 }
 
+# same_output NAME: target/tests/NAME must print what the proved program crates/NAME prints. Counts as one test.
+same_output() {
+    "target/tests/$1" >"$logs/$1.stdout"
+    cmp "$logs/$1.stdout" "crates/$1/stdout" || fail "tests/$1 and crates/$1 print different lines"
+    echo "test $1 prints what crates/$1 prints ... ok"
+    echo "test result: ok. 1 passed; 0 failed; 0 ignored; 0 measured; 0 filtered out"
+}
+
 last_line='$s/^\([0-9][0-9]*\) passed, 0 failed$/\1/p'
 results='s/^test result: ok\. \([0-9][0-9]*\) passed; 0 failed;.*/\1/p'
 
@@ -49,12 +57,19 @@ for source in tests/*.rs; do
     run "$name" "$results" "target/tests/$name"
 done
 
-# The proved library, called from Rust, with the full number of random calls, and from C.
+# The generator's outputs, by C++'s own generator.
+cxx=(c++ -std=c++17 -Wall -Wextra -Werror -O2 -Iinclude)
+"${cxx[@]}" tests/mt_outputs.cpp -o target/tests/mt_outputs
+run mt_outputs "$results" same_output mt_outputs
+
+# The proved library, called from Rust, with the full number of random calls, from C and from C++.
 unset PAIRING_RANDOM_CALLS
 rt staticlib capi
 CARGO_TARGET_DIR=target/agent run agent "$results" \
     cargo test --manifest-path agent/Cargo.toml --release --offline -- --show-output
 cc -std=c11 -Wall -Wextra -Werror -O2 -Iinclude tests/c_interface.c target/staticlib/libcapi.a -o target/tests/c_interface
 run c_interface "$results" target/tests/c_interface
+"${cxx[@]}" tests/stretch.cpp target/staticlib/libcapi.a -o target/tests/stretch
+run stretch "$results" target/tests/stretch
 
 echo "$passed passed, 0 failed"

@@ -1,10 +1,10 @@
-//! Many random calls of each entry, accepted and refused, against the independent implementation.
+//! Many random calls of each entry, accepted and refused, against the independent implementations.
 
 #![forbid(unsafe_code)]
 
 mod common;
 
-use common::calls::{Digest, Match};
+use common::calls::{Digest, DigestBytes, Match, Stretch};
 use common::random::Random;
 use std::collections::BTreeMap;
 
@@ -44,6 +44,23 @@ fn digest_words() {
         &[0, 1, 2, 3, 4, 5, 6, 7],
         |random| random_digest(random).check(random),
     );
+}
+
+#[test]
+fn digest_bytes() {
+    tally(
+        "digest_bytes",
+        20_250_303,
+        &[0, 1, 2, 3, 4, 5, 6, 7],
+        |random| random_digest_of_bytes(random).check(random),
+    );
+}
+
+#[test]
+fn stretch() {
+    tally("stretch", 20_250_304, &[0, 1, 4], |random| {
+        random_stretch(random).check(random)
+    });
 }
 
 #[test]
@@ -122,6 +139,118 @@ fn random_digest(random: &mut Random) -> Digest {
         message,
         key,
         out: random.row(places),
+    }
+}
+
+/// As above, but for the width and the message.
+fn random_digest_of_bytes(random: &mut Random) -> DigestBytes {
+    let faulty = !random.once_in(3);
+    let fault = |random: &mut Random, times| faulty && random.once_in(times);
+
+    let width = [8, 16, 32][random.below(3)];
+    let w = if fault(random, 6) {
+        width_not_of_bytes(random)
+    } else {
+        width
+    };
+    let b = if fault(random, 6) {
+        outside(random, w.saturating_add(1))
+    } else if w == 0 || random.once_in(3) {
+        w
+    } else {
+        1 + random.below(w.min(32) as usize) as u32
+    };
+    let n = if fault(random, 6) {
+        outside(random, 9)
+    } else {
+        1 + random.below(8) as u32
+    };
+    let due = n.min(20) as usize;
+    let word = width as usize / 8;
+    let most = 65_536 * word;
+    let bytes = if fault(random, 120) {
+        most + 1 + random.below(3 * word)
+    } else if random.once_in(4_000) {
+        most - random.below(3 * word)
+    } else if random.once_in(10) {
+        random.below(1_200)
+    } else {
+        random.below(24 * word)
+    };
+    let t = bytes.div_ceil(word);
+    let key_words = if fault(random, 5) {
+        // Now and then a length that takes bytes for words.
+        match random.below(8) {
+            0 => bytes + due,
+            _ => other_length(random, t + due),
+        }
+    } else {
+        t + due
+    };
+    let places = if fault(random, 5) {
+        random.below(due.max(1))
+    } else if random.once_in(2) {
+        due
+    } else {
+        due + random.below(12)
+    };
+
+    let style = random.below(8);
+    let message = words_below(random, 8, bytes, style);
+    let mut key = words_below(random, w, key_words, style);
+    if fault(random, 3) {
+        spoil(random, w, &mut key);
+    }
+    DigestBytes {
+        w,
+        b,
+        n,
+        message: message.iter().map(|byte| *byte as u8).collect(),
+        key,
+        out: random.row(places),
+    }
+}
+
+/// Not 8, 16 or 32, but often fit for words.
+fn width_not_of_bytes(random: &mut Random) -> u32 {
+    let w = match random.below(6) {
+        0 => 0,
+        1 => 33,
+        2 => [7, 9, 15, 17, 24, 31, 64][random.below(7)],
+        3 => random.word(),
+        _ => 1 + random.below(40) as u32,
+    };
+    match w {
+        8 | 16 | 32 => w + 1,
+        _ => w,
+    }
+}
+
+/// Most rows are short; some stand around a refill, a few around the longest.
+fn random_stretch(random: &mut Random) -> Stretch {
+    let w = if random.once_in(6) {
+        outside(random, 33)
+    } else {
+        1 + random.below(32) as u32
+    };
+    let words = match random.below(300) {
+        0 => 65_545 + random.below(3),
+        1 if random.once_in(5) => 65_544 - random.below(3),
+        2..=30 => 622 + random.below(5),
+        31..=60 => 1_246 + random.below(5),
+        61..=100 => random.below(2_000),
+        _ => random.below(40),
+    };
+    let seed = match random.below(8) {
+        0 => random.below(20) as u32,
+        1 => u32::MAX - random.below(20) as u32,
+        2 => 1 << random.below(32),
+        _ => random.word(),
+    };
+    Stretch {
+        w,
+        seed,
+        out: random.row(words),
     }
 }
 

@@ -6,7 +6,7 @@ mod common;
 
 use common::calls::{Digest, Match};
 use common::random::Random;
-use pairing_agent::{digest_words, digests_match};
+use pairing_agent::{digest_bytes, digest_words, digests_match};
 
 /// The digest, in a row that has one place more than it needs.
 fn worked(w: u32, b: u32, n: u32, message: &[u32], key: &[u32]) -> Vec<u32> {
@@ -54,6 +54,21 @@ fn case_e() {
 #[test]
 fn case_f() {
     assert_eq!(worked(8, 8, 1, &[], &[7]), [0]);
+}
+
+/// Bytes 01 02 03 at width 16 are the words 0x0201 0x0003.
+#[test]
+fn case_h() {
+    let mut random = Random::new(12);
+    for n in 1..=8 {
+        for b in 1..=16 {
+            let key: Vec<u32> = random.row(2 + n).iter().map(|k| k >> 16).collect();
+            let digest = worked(16, b, n as u32, &[0x0201, 0x0003], &key);
+            let mut out = random.row(n);
+            let result = digest_bytes(16, b, n as u32, &[0x01, 0x02, 0x03], &key, &mut out);
+            assert_eq!((result, out), (Ok(()), digest));
+        }
+    }
 }
 
 /// All keys of two words below 4.

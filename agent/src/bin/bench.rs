@@ -1,4 +1,5 @@
-//! The proved word digest beside Rust loops, on one input in one run.
+//! The proved word digest beside Rust loops, and the proved byte digest beside the word digest of
+//! the same words, each on one input in one run.
 //!
 //! (a) is a plain indexed loop that tests its words. (b) is bare sums, which test nothing: the
 //! faster of two loops that the compiler turns into vector code. All sides walk the message once
@@ -29,6 +30,64 @@ fn main() {
     println!();
     for row in &rows {
         row.print_ratios();
+    }
+
+    println!("\nThe same {WORDS} words, as bytes and as words.\n");
+    let rows = [(8, 1), (8, 8), (16, 1), (16, 8), (32, 1), (32, 8)];
+    let rows = rows.map(|(w, n)| BytesRow::measure(w, n));
+    println!("  w  n       bytes       words    million words/s");
+    for row in &rows {
+        row.print_times();
+    }
+    println!();
+    for row in &rows {
+        row.print_ratio();
+    }
+}
+
+/// How long the calls of one side took.
+struct Times {
+    fastest: Duration,
+    median: Duration,
+}
+
+/// Runs every side once a round.
+fn race<const SIDES: usize>(mut sides: [Box<dyn FnMut() + '_>; SIDES]) -> [Times; SIDES] {
+    let mut times = [(); SIDES].map(|()| Vec::with_capacity(ROUNDS));
+    for _ in 0..ROUNDS {
+        for (side, times) in sides.iter_mut().zip(&mut times) {
+            let start = Instant::now();
+            side();
+            times.push(start.elapsed());
+        }
+    }
+    times.map(|mut times| {
+        times.sort_unstable();
+        Times {
+            fastest: times[0],
+            median: times[ROUNDS / 2],
+        }
+    })
+}
+
+fn print_times(w: u32, n: usize, times: &[Times]) {
+    print!("{w:3} {n:2}");
+    for times in times {
+        print!("  {:7.1} us", times.fastest.as_secs_f64() * 1e6);
+    }
+    let rate = WORDS as f64 / times[0].fastest.as_secs_f64() / 1e6;
+    println!("    {rate:15.0}");
+}
+
+fn print_ratio(w: u32, n: usize, names: &str, of: [&Times; 2], goal: Option<f64>) {
+    let ratio = |of: [Duration; 2]| of[0].as_secs_f64() / of[1].as_secs_f64();
+    let fastest = ratio(of.map(|times| times.fastest));
+    let median = ratio(of.map(|times| times.median));
+    print!("w {w:2}, n {n}: {names:20} {fastest:.2} ({median:.2})");
+    match goal {
+        Some(goal) if fastest <= goal => println!("  goal {goal}: met"),
+        Some(goal) => println!("  goal {goal}: missed"),
+        None => println!(),
     }
 }
 
@@ -143,70 +202,89 @@ fn one_word_by_masks(w: u32, message: &[u32], key: &[u32]) -> u32 {
 struct Row {
     w: u32,
     n: usize,
-    fastest: [Duration; SIDES.len()],
-    median: [Duration; SIDES.len()],
+    times: [Times; SIDES.len()],
 }
 
 impl Row {
     fn measure(w: u32, n: usize) -> Row {
         let (message, key) = input(w, n);
-        let mut times = [(); SIDES.len()].map(|()| Vec::with_capacity(ROUNDS));
         let mut digests = [(); SIDES.len()].map(|()| vec![0; n]);
-        for _ in 0..ROUNDS {
-            // Each side is a function of its own, as the library's is: not inlined here.
-            for (i, side) in black_box(SIDES).iter().enumerate() {
-                let (message, key) = (black_box(&message), black_box(&key));
-                let start = Instant::now();
-                side(black_box(w), message, key, black_box(&mut digests[i]));
-                times[i].push(start.elapsed());
-            }
-        }
+        let mut places = digests.iter_mut();
+        // Each side is a function of its own, as the library's is: not inlined here.
+        let times = race(black_box(SIDES).map(|side| -> Box<dyn FnMut()> {
+            let (message, key, out) = (&message, &key, places.next().unwrap());
+            Box::new(move || {
+                side(
+                    black_box(w),
+                    black_box(message),
+                    black_box(key),
+                    black_box(out),
+                )
+            })
+        }));
         for digest in &digests {
             assert_eq!(*digest, digests[LIBRARY], "a side computes something else");
         }
-        for times in &mut times {
-            times.sort_unstable();
-        }
-        Row {
-            w,
-            n,
-            fastest: times.each_ref().map(|times| times[0]),
-            median: times.each_ref().map(|times| times[ROUNDS / 2]),
-        }
+        Row { w, n, times }
     }
 
     fn print_times(&self) {
-        print!("{:3} {:2}", self.w, self.n);
-        for time in self.fastest {
-            print!("  {:7.1} us", time.as_secs_f64() * 1e6);
-        }
-        let rate = WORDS as f64 / self.fastest[LIBRARY].as_secs_f64() / 1e6;
-        println!("    {rate:15.0}");
+        print_times(self.w, self.n, &self.times);
     }
 
     fn print_ratios(&self) {
-        let bare = if self.fastest[MASKS] < self.fastest[SHIFTS] {
+        let bare = if self.times[MASKS].fastest < self.times[SHIFTS].fastest {
             MASKS
         } else {
             SHIFTS
         };
         let of_bare = if self.n == 1 { 1.3 } else { 1.1 };
-        self.print_ratio("(b)", bare, Some(of_bare));
-        self.print_ratio("(b) shifts", SHIFTS, None);
-        self.print_ratio("(a)", PLAIN, (self.n == 1).then_some(0.75));
+        self.print_ratio("library / (b)", bare, Some(of_bare));
+        self.print_ratio("library / (b) shifts", SHIFTS, None);
+        self.print_ratio("library / (a)", PLAIN, (self.n == 1).then_some(0.75));
     }
 
-    fn print_ratio(&self, name: &str, side: usize, goal: Option<f64>) {
-        let ratio = |times: &[Duration]| times[LIBRARY].as_secs_f64() / times[side].as_secs_f64();
-        let fastest = ratio(&self.fastest);
-        let median = ratio(&self.median);
-        print!("w {:2}, n {}: ", self.w, self.n);
-        print!("library / {name:10} {fastest:.2} ({median:.2})");
-        match goal {
-            Some(goal) if fastest <= goal => println!("  goal {goal}: met"),
-            Some(goal) => println!("  goal {goal}: missed"),
-            None => println!(),
-        }
+    fn print_ratio(&self, names: &str, side: usize, goal: Option<f64>) {
+        let of = [&self.times[LIBRARY], &self.times[side]];
+        print_ratio(self.w, self.n, names, of, goal);
+    }
+}
+
+/// The byte digest and then the word digest of the same words.
+struct BytesRow {
+    w: u32,
+    n: usize,
+    times: [Times; 2],
+}
+
+impl BytesRow {
+    fn measure(w: u32, n: usize) -> BytesRow {
+        let (words, key) = input(w, n);
+        let bytes: Vec<u8> = words
+            .iter()
+            .flat_map(|word| word.to_le_bytes().into_iter().take(w as usize / 8))
+            .collect();
+        let (mut of_bytes, mut of_words) = (vec![0; n], vec![1; n]);
+        let times = race([
+            Box::new(|| {
+                let (w, n) = (black_box(w), n as u32);
+                pairing_agent::digest_bytes(w, w, n, &bytes, &key, black_box(&mut of_bytes))
+                    .expect("the input is fit");
+            }),
+            Box::new(|| library(black_box(w), &words, &key, black_box(&mut of_words))),
+        ]);
+        assert_eq!(of_bytes, of_words, "the digests differ");
+        BytesRow { w, n, times }
+    }
+
+    fn print_times(&self) {
+        print_times(self.w, self.n, &self.times);
+    }
+
+    fn print_ratio(&self) {
+        let of = [&self.times[0], &self.times[1]];
+        let goal = (self.w == 32).then_some(1.5);
+        print_ratio(self.w, self.n, "bytes / words", of, goal);
     }
 }
 

@@ -48,6 +48,27 @@ fn digest_answer(w: u32, b: u32, n: u32, message: &[u32], key: &[u32], places: u
     0
 }
 
+/// The byte digest as a whole call: but for the width, the digest of the words that the bytes make.
+pub fn digest_bytes(w: u32, b: u32, n: u32, message: &[u8], key: &[u32], out: &[u32]) -> Outcome {
+    if ![8, 16, 32].contains(&w) {
+        return Outcome {
+            answer: 1,
+            out: out.to_vec(),
+        };
+    }
+    digest_words(w, b, n, &words_of_bytes(w, message), key, out)
+}
+
+/// The first byte lowest; bytes that the last word lacks count as zero.
+pub fn words_of_bytes(w: u32, bytes: &[u8]) -> Vec<u32> {
+    let in_a_word = w as usize / 8;
+    let mut words = vec![0; bytes.len().div_ceil(in_a_word)];
+    for (i, byte) in bytes.iter().enumerate() {
+        words[i / in_a_word] += u32::from(*byte) * 256u32.pow((i % in_a_word) as u32);
+    }
+    words
+}
+
 /// The match as a whole call.
 pub fn match_answer(n: u32, first: &[u32], second: &[u32]) -> u32 {
     if n == 0 || n > 8 {

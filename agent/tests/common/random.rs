@@ -19,6 +19,10 @@ impl Random {
         (self.next() >> 32) as u32
     }
 
+    pub fn byte(&mut self) -> u8 {
+        (self.next() >> 56) as u8
+    }
+
     /// A number below `end`, each about as often.
     pub fn below(&mut self, end: usize) -> usize {
         (self.next() % end as u64) as usize

@@ -1,0 +1,223 @@
+//! `pairing count`: the class's count at a small width.
+
+use crate::args::Args;
+use crate::{histogram, picture, unusable, Answer, Failure};
+use pairing_agent::Refusal;
+use std::collections::BTreeMap;
+use std::fs::File;
+use std::io::{IsTerminal, Write};
+
+pub const HELP: &str = "\
+The largest count of keys under which two different messages have one digest.
+
+Usage: pairing count --width W [--svg FILE]
+
+  --width W    bits of a word, 1 to 10
+  --svg FILE   also draw the histogram into this file
+
+Takes every pair of different one-word messages and every key, with one digest
+word and all W bits kept. Prints the largest count, the first pair that reaches
+it, how many pairs do, the proved bound, and how many pairs have each count.
+Width 8 takes about a second, width 10 about a minute.
+";
+
+/// The largest width that is counted.
+const WIDEST: u32 = 10;
+
+/// What 003 reports at this width, in keys: 1.875 * 2^-7 of 2^14.
+const REPORTED: (u32, u32) = (7, 240);
+
+pub fn run(args: Args) -> Result<Answer, Failure> {
+    let w = args.needed_number("--width")?;
+    let [] = args.operands([])?;
+    // The library's word on the width comes first.
+    digest(w, 0, [0, 0])?;
+    if w > WIDEST {
+        return Err(unusable(too_wide(w)));
+    }
+    // Opened before the count, so that a file that cannot be written costs no wait.
+    let svg = match args.value("--svg") {
+        Some(file) => {
+            let name = format!("'{}'", file.to_string_lossy());
+            let opened = File::create(file);
+            Some((opened.map_err(|error| cannot_write(&name, &error))?, name))
+        }
+        None => None,
+    };
+    let count = Count::run(w)?;
+    if let Some((mut file, name)) = svg {
+        file.write_all(picture::draw(&count).as_bytes())
+            .map_err(|error| cannot_write(&name, &error))?;
+    }
+    Ok(Answer::accepted(
+        count.summary() + "\n" + &histogram::draw(&count.pairs_at),
+    ))
+}
+
+fn cannot_write(name: &str, error: &std::io::Error) -> Failure {
+    unusable(format!("cannot write {name}: {error}"))
+}
+
+/// The digest of a one-word message, computed by the proved library.
+fn digest(w: u32, message: u32, key: [u32; 2]) -> Result<u32, Refusal> {
+    let mut out = [0];
+    pairing_agent::digest_words(w, w, 1, &[message], &key, &mut out)?;
+    Ok(out[0])
+}
+
+/// What the count at too large a width would take.
+fn too_wide(w: u32) -> String {
+    const DIGESTS_A_SECOND: f64 = 20e6;
+    let hours = 2f64.powi(3 * w as i32) / DIGESTS_A_SECOND / 3600.0;
+    let time = if hours < 1.0 {
+        format!("{:.0} minutes", hours * 60.0)
+    } else if hours < 48.0 {
+        format!("{hours:.0} hours")
+    } else if hours < 24.0 * 730.0 {
+        format!("{:.0} days", hours / 24.0)
+    } else if hours < 24.0 * 365e6 {
+        format!("{:.0} years", hours / 24.0 / 365.0)
+    } else {
+        format!("{:.0e} years", hours / 24.0 / 365.0)
+    };
+    format!(
+        "width {w} is not counted: every message under every key makes 2^{} digests, about \
+         {time} of work and a table of 2^{} counts; the widest that is counted is {WIDEST}, and \
+         the bound is proved for every width",
+        3 * w,
+        2 * w
+    )
+}
+
+/// The count at one width, over all pairs of different one-word messages and all keys.
+pub struct Count {
+    pub w: u32,
+    /// The most keys under which a pair agrees.
+    pub largest: u32,
+    /// The first pair with so many.
+    pub first: (u32, u32),
+    /// For each count of agreeing keys, how many pairs have it.
+    pub pairs_at: BTreeMap<u32, u32>,
+}
+
+impl Count {
+    fn run(w: u32) -> Result<Count, Refusal> {
+        let words = 1u32 << w;
+        let place = |a: u32, b: u32| (a * words + b) as usize;
+        let mut agreeing = vec![0u32; place(words - 1, words - 1) + 1];
+        // The messages with each digest, under one key.
+        let mut with_digest = vec![Vec::new(); words as usize];
+        let mut progress = Progress::start();
+        for first_key_word in 0..words {
+            progress.show(first_key_word, words);
+            for second_key_word in 0..words {
+                with_digest.iter_mut().for_each(Vec::clear);
+                for message in 0..words {
+                    let digest = digest(w, message, [first_key_word, second_key_word])?;
+                    let others = &mut with_digest[digest as usize];
+                    for &other in others.iter() {
+                        agreeing[place(other, message)] += 1;
+                    }
+                    others.push(message);
+                }
+            }
+        }
+        progress.end();
+
+        let mut count = Count {
+            w,
+            largest: 0,
+            first: (0, 1),
+            pairs_at: BTreeMap::new(),
+        };
+        for a in 0..words {
+            for b in a + 1..words {
+                let keys = agreeing[place(a, b)];
+                *count.pairs_at.entry(keys).or_insert(0) += 1;
+                if keys > count.largest {
+                    (count.largest, count.first) = (keys, (a, b));
+                }
+            }
+        }
+        Ok(count)
+    }
+
+    /// All pairs of different messages.
+    pub fn pairs(&self) -> u32 {
+        self.pairs_at.values().sum()
+    }
+
+    /// The pairs with the largest count.
+    pub fn reached(&self) -> u32 {
+        self.pairs_at[&self.largest]
+    }
+
+    /// All keys of two words.
+    pub fn keys(&self) -> u32 {
+        1 << (2 * self.w)
+    }
+
+    /// The proved bound, 2^(w*t + n + n*(w - b)), at t = 1, n = 1, b = w.
+    pub fn bound(&self) -> u32 {
+        1 << (self.w + 1)
+    }
+
+    /// What 003 reports at this width, in keys.
+    pub fn reported(&self) -> Option<u32> {
+        (self.w == REPORTED.0).then_some(REPORTED.1)
+    }
+
+    fn summary(&self) -> String {
+        let mut text = format!(
+            "width {w}, kept {w}, one digest word, one-word messages: \
+             {pairs} pair{s} of different messages, {keys} keys\n\
+             largest count of keys under which a pair agrees: {largest}\n\
+             first pair that reaches it: {first} and {second}\n\
+             pairs that reach it: {reached}\n\
+             bound: {bound}\n",
+            w = self.w,
+            pairs = self.pairs(),
+            s = if self.pairs() == 1 { "" } else { "s" },
+            keys = self.keys(),
+            largest = self.largest,
+            first = self.first.0,
+            second = self.first.1,
+            reached = self.reached(),
+            bound = self.bound()
+        );
+        if let Some(reported) = self.reported() {
+            text += &format!("003 reports: {reported}, as 1.875 * 2^-7 of all keys\n");
+        }
+        text
+    }
+}
+
+/// A line on standard error that says how far the count is, if that is a terminal.
+struct Progress {
+    terminal: bool,
+    shown: Option<u32>,
+}
+
+impl Progress {
+    fn start() -> Progress {
+        Progress {
+            terminal: std::io::stderr().is_terminal(),
+            shown: None,
+        }
+    }
+
+    fn show(&mut self, done: u32, all: u32) {
+        let percent = done * 100 / all;
+        if self.terminal && self.shown != Some(percent) {
+            self.shown = Some(percent);
+            eprint!("\rcounting: {percent} % of the keys");
+        }
+    }
+
+    /// Takes the line away.
+    fn end(self) {
+        if self.terminal {
+            eprint!("\r\x1b[K");
+        }
+    }
+}

@@ -1,0 +1,189 @@
+//! The stretch against an independent MT19937: seeds, widths and lengths, and the edges.
+
+#![forbid(unsafe_code)]
+
+mod common;
+
+use common::calls::{Digest, Stretch};
+use common::mt19937::Generator;
+use common::random::Random;
+use pairing_agent::{ffi, Refusal};
+
+/// The most words of a stretch.
+const MOST: usize = 65_544;
+
+/// Around each refill, and the ends.
+const LENGTHS: [usize; 11] = [0, 1, 2, 623, 624, 625, 1_247, 1_248, 1_249, MOST - 1, MOST];
+
+/// Seeds at the ends of the range, and ones that are in use.
+const SEEDS: [u32; 8] = [
+    0,
+    1,
+    2,
+    5_489,
+    19_650_218,
+    0x7fff_ffff,
+    0x8000_0000,
+    u32::MAX,
+];
+
+fn answer(w: u32, seed: u32, words: usize) -> u32 {
+    let mut random = Random::new(u64::from(seed));
+    let out = random.row(words);
+    Stretch { w, seed, out }.check(&mut random)
+}
+
+/// The row of an accepted call.
+fn stretched(w: u32, seed: u32, words: usize) -> Vec<u32> {
+    let mut out = vec![0xdead_beef; words];
+    assert_eq!(ffi::stretch(w, seed, &mut out), 0);
+    out
+}
+
+#[test]
+fn every_width_and_length() {
+    let mut random = Random::new(9);
+    let mut calls = 0;
+    for w in 1..=32 {
+        for words in LENGTHS {
+            for seed in SEEDS.into_iter().chain([random.word(), random.word()]) {
+                assert_eq!(answer(w, seed, words), 0);
+                calls += 1;
+            }
+        }
+    }
+    println!("every_width_and_length: {calls} calls");
+}
+
+#[test]
+fn many_seeds() {
+    let mut random = Random::new(10);
+    let small = 0..5_000;
+    let one_bit = (0..32).flat_map(|bit| [1 << bit, !(1 << bit)]);
+    let any: Vec<u32> = random.row(5_000);
+    let mut calls = 0;
+    for seed in small.chain(one_bit).chain(any) {
+        let w = 1 + random.below(32) as u32;
+        let words = 600 + random.below(700);
+        assert_eq!(answer(w, seed, words), 0);
+        calls += 1;
+    }
+    println!("many_seeds: {calls} calls");
+}
+
+#[test]
+fn every_short_length() {
+    for words in 0..=1_300 {
+        assert_eq!(answer(32, 4_357, words), 0);
+        assert_eq!(answer(7, 4_357, words), 0);
+    }
+}
+
+/// The C++ standard fixes this output.
+#[test]
+fn output_10_000_of_seed_5489() {
+    assert_eq!(stretched(32, 5_489, 10_000)[9_999], 4_123_659_995);
+    let mut generator = Generator::new(5_489);
+    let last = (0..10_000).map(|_| generator.next()).last();
+    assert_eq!(last, Some(4_123_659_995));
+}
+
+#[test]
+fn a_shorter_row_is_the_start_of_a_longer_one() {
+    let longest = stretched(32, 77, MOST);
+    for words in LENGTHS {
+        assert!(stretched(32, 77, words) == longest[..words]);
+    }
+}
+
+#[test]
+fn narrower_words_are_the_low_bits() {
+    let whole = stretched(32, 78, 2_000);
+    for w in 1..32 {
+        let low: Vec<u32> = whole.iter().map(|word| word % (1 << w)).collect();
+        assert!(stretched(w, 78, 2_000) == low, "w {w}");
+    }
+}
+
+#[test]
+fn long() {
+    for w in [1, 8, 16, 31, 32] {
+        for (words, due) in [
+            (MOST - 1, 0),
+            (MOST, 0),
+            (MOST + 1, 4),
+            (MOST + 2, 4),
+            (2 * MOST, 4),
+        ] {
+            assert_eq!(answer(w, 5, words), due, "w {w}, {words} words");
+        }
+    }
+}
+
+/// `check` has seen this too; here it is spelled out.
+#[test]
+fn a_row_that_is_too_long_is_not_touched() {
+    let mut out = vec![0xdead_beef; MOST + 1];
+    assert_eq!(ffi::stretch(32, 5_489, &mut out), 4);
+    assert!(out.iter().all(|word| *word == 0xdead_beef));
+}
+
+#[test]
+fn width() {
+    for w in [0, 33, 34, 40, 64, 65, 256, 1 << 16, 1 << 31, u32::MAX] {
+        for words in [0, 1, 2, 625, MOST] {
+            assert_eq!(answer(w, 6, words), 1, "w {w}, {words} words");
+        }
+    }
+    for w in 1..=32 {
+        assert_eq!(answer(w, 6, 3), 0, "w {w}");
+    }
+}
+
+#[test]
+fn width_before_long() {
+    for w in [0, 33, u32::MAX] {
+        for words in [MOST + 1, MOST + 2, 2 * MOST] {
+            assert_eq!(answer(w, 6, words), 1, "w {w}, {words} words");
+        }
+    }
+}
+
+#[test]
+fn empty_row() {
+    assert_eq!(ffi::stretch(1, 0, &mut []), 0);
+    assert_eq!(ffi::stretch(32, 0, &mut []), 0);
+    assert_eq!(ffi::stretch(0, 0, &mut []), 1);
+    assert_eq!(ffi::stretch(33, 0, &mut []), 1);
+}
+
+/// The digest takes a stretched row as its key, up to the most words of both.
+#[test]
+fn a_stretched_row_is_a_key() {
+    let mut random = Random::new(11);
+    for w in 1..=32 {
+        for t in [0, 1, 623, 65_536] {
+            let message = random.row(t).iter().map(|m| m >> (32 - w)).collect();
+            let call = Digest {
+                w,
+                b: w,
+                n: 8,
+                message,
+                key: stretched(w, random.word(), t + 8),
+                out: vec![0xdead_beef; 8],
+            };
+            assert_eq!(call.check(&mut random), 0, "w {w}, t {t}");
+        }
+    }
+}
+
+#[test]
+fn results_name_the_refusals() {
+    let mut row = vec![3; MOST + 1];
+    assert_eq!(pairing_agent::stretch(0, 1, &mut row), Err(Refusal::Width));
+    assert_eq!(pairing_agent::stretch(33, 1, &mut row), Err(Refusal::Width));
+    assert_eq!(pairing_agent::stretch(32, 1, &mut row), Err(Refusal::Long));
+    assert!(row.iter().all(|word| *word == 3));
+    assert_eq!(pairing_agent::stretch(32, 1, &mut row[1..]), Ok(()));
+    assert_eq!(row[0], 3);
+}
