@@ -12,6 +12,9 @@ use Rattle.sums.specs.Count.{sumTo, overRows, asNumber, count, sameRow, every, 
 use Rattle.sums.specs.Claims.{keysThatDiffer, keysThatGive}
 use Rattle.sums.specs.Corollaries.{RowTest}
 use Rattle.sums.specs.Bytes.{littleEndian, wordsFrom, countOf, wordsOf}
+use Rattle.stream.specs.Calls.{openAnswer, openState, pushAnswer, pushState, readAnswer, reading, readRow}
+use Rattle.stream.specs.State.{padded, fitState, keyWordsTest, stateTest, addSums, lastWords, pushed, opened, noStream}
+use Rattle.digest.specs.Sizes.{settingsAnswer}
 use Rattle.mt19937.specs.Published.{table, following, newWord, newWords}
 use Rattle.digest.specs.Answers.{firstOf, widthTest, keptTest, countTest, longTest, keyTest, trayTest, wordTest, afterwards}
 use Rattle.digest.specs.Words.{digestAnswer, digestRow}
@@ -30,5 +33,5 @@ agree-at (c ∷ cs) t zero lt = row-test (c .given) (c .written) .0 (both (sameR
 agree-at (c ∷ cs) t (suc i) lt = agree-at cs (both (sameRow (c .given) (c .written)) (agree cs) t .1) i (le-of-suc-le-suc lt)
 
 pub every-case : (i : ℕ) → i < length cases → getD cases i (case [] []) .given ≡ getD cases i (case [] []) .written
-unfolding agree cases called wordsOf wordsFrom countOf littleEndian newWords table newWord following digestAnswer digestRow firstOf widthTest keptTest countTest longTest keyTest trayTest wordTest afterwards fits wholeSum oneWord fullWords kept digest sumTo overRows asNumber count sameRow every differBy keysThatDiffer keysThatGive
+unfolding agree cases called openAnswer openState pushAnswer pushState readAnswer reading readRow padded settingsAnswer fitState keyWordsTest stateTest addSums lastWords pushed opened noStream wordsOf wordsFrom countOf littleEndian newWords table newWord following digestAnswer digestRow firstOf widthTest keptTest countTest longTest keyTest trayTest wordTest afterwards fits wholeSum oneWord fullWords kept digest sumTo overRows asNumber count sameRow every differBy keysThatDiffer keysThatGive
 every-case = agree-at cases tt

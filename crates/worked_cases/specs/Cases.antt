@@ -5,6 +5,7 @@ use lib.ListN.{replicate}
 use Rattle.sums.specs.Claims.{keysThatDiffer, keysThatGive}
 use Rattle.sums.specs.Bytes.{wordsOf}
 use Rattle.digest.specs.Words.{digestAnswer, digestRow}
+use Rattle.stream.specs.Calls.{openState, pushState, readRow}
 use Rattle.mt19937.specs.Published.{newWords}
 
 -- a row: the numbers that the definitions give, and those of the document
@@ -43,6 +44,10 @@ caseE = case (called 32 32 1 (0xffff_ffff ∷ []) (0xffff_ffff ∷ 0xffff_ffff �
 abbrev pub caseF : Case
 caseF = case (called 8 8 1 [] (7 ∷ [])) (0 ∷ 0x00 ∷ [])
 
+-- G: C streamed reads 0x1e 0x3d after its first word
+abbrev pub caseG : Case
+caseG = case (readRow (pushState (openState 8 8 2 (10 ∷ 20 ∷ [])) (3 ∷ []) (100 ∷ [])) (0 ∷ 0 ∷ [])) (0x1e ∷ 0x3d ∷ [])
+
 -- H: bytes 01 02 03 at width 16 are the words 0x0201 0x0003
 abbrev pub caseH : Case
 caseH = case (wordsOf 16 (0x01 ∷ 0x02 ∷ 0x03 ∷ [])) (0x0201 ∷ 0x0003 ∷ [])
@@ -67,4 +72,4 @@ abbrev pub caseK : Case
 caseK = case (newWords 0 3) (0 ∷ 1 ∷ 1812433255 ∷ [])
 
 unfoldable pub cases : List Case
-cases = caseA ∷ caseB ∷ caseC ∷ caseD ∷ caseE ∷ caseF ∷ caseH ∷ caseI ∷ caseJ ∷ caseK ∷ []
+cases = caseA ∷ caseB ∷ caseC ∷ caseD ∷ caseE ∷ caseF ∷ caseG ∷ caseH ∷ caseI ∷ caseJ ∷ caseK ∷ []

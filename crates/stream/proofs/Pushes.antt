@@ -1,0 +1,136 @@
+-- Pushes on any fit state: the state stays fit, an empty push changes nothing, and two pushes are one of both parts.
+use mathlib.Core.Path.{_≡_, refl, sym, ap, ap₂, _∙_}
+use mathlib.Core.Bool.{Bool, true, _&&_}
+use mathlib.Core.List.{List, [], _∷_, _++_, append-assoc, append-nil}
+use Prim.Native.Nat.{ℕ, _+_, _%_, _^_, _≤_}
+use native.Mathlib.Nat.{add-zero, mod-lt, mod-eq-of-lt}
+use native.Mathlib.Omega.{arith}
+use borrow.Author.Tests.{ltb-true, lt-ltb}
+use lib.Dec.{ltb}
+use lib.Pow.{pow-pos}
+use lib.ListN.{length, drop, length-append, length-drop, take-append-drop}
+use lib.Seq.{drop-drop, drop-append-le, length-take-le}
+use Rattle.sums.specs.Digest.{fits, wholeSum}
+use Rattle.stream.specs.declared.Stream.{Stream}
+use Rattle.stream.specs.State.{padded, heldKeys, heldSums, addSums, lastWords, pushed}
+use Rattle.stream.proofs.Judged.{Fit, Takes, both}
+use Rattle.stream.proofs.Added.{length-sums, sums-more, sums-append}
+use Rattle.stream.proofs.Joined.{last-after, length-last}
+use Rattle.stream.proofs.Padded.{fits-append, fits-parts, padded-length, padded-held, padded-unused, padded-over, padded-fits}
+
+-- a fit state with its rows of eight places
+pub record Good (s : Stream) : Type 0 where
+  pub fit : Fit s
+  pub keys-eight : length (s .keys) ≡ 8
+  pub sums-eight : length (s .sums) ≡ 8
+
+sums-fit : (w : ℕ) (ms ks sums : List ℕ) → fits w (addSums w ms ks sums) ≡ true
+unfolding fits addSums
+sums-fit w ms ks [] = refl
+sums-fit w ms ks (s ∷ sums) =
+    rw (lt-ltb ((s + wholeSum w ms ks) % 2 ^ w) (2 ^ w) (mod-lt (s + wholeSum w ms ks) (pow-pos w))) (sums-fit w ms (drop 1 ks) sums)
+
+-- no message adds nothing to sums that fit
+sums-none : (w : ℕ) (ks sums : List ℕ) → fits w sums ≡ true → addSums w [] ks sums ≡ sums
+unfolding fits addSums wholeSum
+sums-none w ks [] h = refl
+sums-none w ks (s ∷ sums) h =
+    let p = both (ltb s (2 ^ w)) (fits w sums) h in
+    ap₂ (λ (x : ℕ) (xs : List ℕ). x ∷ xs)
+    (ap (λ (x : ℕ). x % 2 ^ w) (add-zero s) ∙ mod-eq-of-lt (ltb-true s (2 ^ w) (p .0)))
+    (sums-none w (drop 1 ks) sums (p .1))
+
+same-state : (s : Stream) {t t′ : ℕ} {ks ks′ sums sums′ : List ℕ} → t ≡ t′ → ks ≡ ks′ → sums ≡ sums′
+    → _≡_ {A = Stream} (record { width = s .width; kept = s .kept; n = s .n; taken = t; keys = ks; sums = sums })
+    (record { width = s .width; kept = s .kept; n = s .n; taken = t′; keys = ks′; sums = sums′ })
+same-state s e f g = cc
+
+module _ (s : Stream) (good : Good s) where
+  few : s .n ≤ 8
+  few = good .fit .settings .count-high
+
+  held-length : length (heldKeys s) ≡ s .n
+  held-length = length-take-le (s .n) (s .keys) (omega (arith, few, good .keys-eight))
+
+  sums-length : length (heldSums s) ≡ s .n
+  sums-length = length-take-le (s .n) (s .sums) (omega (arith, few, good .sums-eight))
+
+  added-length : (ms ks : List ℕ) → length (addSums (s .width) ms (heldKeys s ++ ks) (heldSums s)) ≡ s .n
+  added-length ms ks = length-sums (s .width) ms (heldKeys s ++ ks) (heldSums s) ∙ sums-length
+
+  -- what the state holds after a push
+  pub pushed-keys : (ms ks : List ℕ) → heldKeys (pushed s ms ks) ≡ drop (length ks) (heldKeys s ++ ks)
+  unfolding pushed
+  pushed-keys ms ks =
+      padded-held (s .n) (lastWords (s .n) (heldKeys s ++ ks)) (length-last (s .n) (heldKeys s) ks held-length) few
+      ∙ last-after (s .n) (heldKeys s) ks held-length
+
+  pub pushed-sums : (ms ks : List ℕ) → heldSums (pushed s ms ks) ≡ addSums (s .width) ms (heldKeys s ++ ks) (heldSums s)
+  unfolding pushed
+  pushed-sums ms ks = padded-held (s .n) (addSums (s .width) ms (heldKeys s ++ ks) (heldSums s)) (added-length ms ks) few
+
+  pub pushed-good : (ms ks : List ℕ) → Takes s ms ks → Good (pushed s ms ks)
+  unfolding pushed
+  pushed-good ms ks t =
+      let last = lastWords (s .n) (heldKeys s ++ ks) in
+      let added = addSums (s .width) ms (heldKeys s ++ ks) (heldSums s) in
+      let last-length = length-last (s .n) (heldKeys s) ks held-length in
+      let held-fits = fits-parts (s .width) (s .n) (s .keys) (good .fit .keys) .0 in
+      let ks-fit = both (fits (s .width) ms) (fits (s .width) ks) (t .fit) .1 in
+      let all-fit = fits-append (s .width) (heldKeys s) ks ∙ ap₂ (λ (x y : Bool). x && y) held-fits ks-fit in
+      let last-fits = ap (fits (s .width)) (last-after (s .n) (heldKeys s) ks held-length) ∙ fits-parts (s .width) (length ks) (heldKeys s ++ ks) all-fit .1 in
+      record {
+        fit =
+            record {
+              settings = good .fit .settings;
+              count = t .room;
+              keys = padded-fits (s .width) last last-fits;
+              sums = padded-fits (s .width) added (sums-fit (s .width) ms (heldKeys s ++ ks) (heldSums s));
+              unused-keys = padded-unused (s .n) last last-length few;
+              unused-sums = padded-unused (s .n) added (added-length ms ks) few;
+            };
+        keys-eight = padded-length (s .n) last last-length few;
+        sums-eight = padded-length (s .n) added (added-length ms ks) few;
+      }
+
+  -- "none being allowed": an empty push
+  pub pushed-none : pushed s [] [] ≡ s
+  unfolding pushed
+  pushed-none =
+      let keep-keys = padded-over (s .n) (heldKeys s) held-length few (s .keys) (good .keys-eight) (good .fit .unused-keys) in
+      let keep-sums = padded-over (s .n) (heldSums s) sums-length few (s .sums) (good .sums-eight) (good .fit .unused-sums) in
+      same-state s (add-zero (s .taken))
+      (ap padded (last-after (s .n) (heldKeys s) [] held-length ∙ append-nil (heldKeys s)) ∙ sym keep-keys ∙ take-append-drop (s .n) (s .keys))
+      (ap padded (sums-none (s .width) (heldKeys s ++ []) (heldSums s) (fits-parts (s .width) (s .n) (s .sums) (good .fit .sums) .0)) ∙ sym keep-sums ∙ take-append-drop (s .n) (s .sums))
+
+  -- a part in two
+  module _ (a ka b kb : List ℕ) (t : Takes s a ka) where
+    then-key : heldKeys (pushed s a ka) ++ kb ≡ drop (length ka) (heldKeys s ++ (ka ++ kb))
+    then-key =
+        ap (λ (l : List ℕ). l ++ kb) (pushed-keys a ka)
+        ∙ sym (drop-append-le (length ka) (heldKeys s ++ ka) kb (omega (arith, length-append (heldKeys s) ka)))
+        ∙ ap (drop (length ka)) (append-assoc (heldKeys s) ka kb)
+
+    two-keys : lastWords (s .n) (heldKeys (pushed s a ka) ++ kb) ≡ lastWords (s .n) (heldKeys s ++ (ka ++ kb))
+    two-keys =
+        let len : length (heldKeys (pushed s a ka)) ≡ s .n = ap length (pushed-keys a ka) ∙ length-drop (length ka) (heldKeys s ++ ka) ∙ omega (arith, length-append (heldKeys s) ka, held-length) in
+        last-after (s .n) (heldKeys (pushed s a ka)) kb len
+        ∙ ap (drop (length kb)) then-key
+        ∙ drop-drop (length kb) (length ka) (heldKeys s ++ (ka ++ kb))
+        ∙ ap (λ (m : ℕ). drop m (heldKeys s ++ (ka ++ kb))) (sym (length-append ka kb))
+        ∙ sym (last-after (s .n) (heldKeys s) (ka ++ kb) held-length)
+
+    two-sums : addSums (s .width) b (heldKeys (pushed s a ka) ++ kb) (heldSums (pushed s a ka)) ≡ addSums (s .width) (a ++ b) (heldKeys s ++ (ka ++ kb)) (heldSums s)
+    two-sums =
+        ap₂ (addSums (s .width) b)
+        (then-key ∙ ap (λ (m : ℕ). drop m (heldKeys s ++ (ka ++ kb))) (t .words))
+        (pushed-sums a ka
+        ∙ sym (sums-more (s .width) a (heldKeys s ++ ka) kb (heldSums s) (omega (arith, length-append (heldKeys s) ka, held-length, sums-length, t .words)))
+        ∙ ap (λ (l : List ℕ). addSums (s .width) a l (heldSums s)) (append-assoc (heldKeys s) ka kb))
+        ∙ sums-append (s .width) a b (heldKeys s ++ (ka ++ kb)) (heldSums s)
+
+    pub pushed-twice : pushed (pushed s a ka) b kb ≡ pushed s (a ++ b) (ka ++ kb)
+    unfolding pushed
+    pushed-twice =
+        let count : s .taken + length a + length b ≡ s .taken + length (a ++ b) = omega (arith, length-append a b) in
+        same-state s count (ap padded two-keys) (ap padded two-sums)

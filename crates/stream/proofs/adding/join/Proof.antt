@@ -1,0 +1,64 @@
+-- `stream::adding::join` meets its contract: two copies into a row of zeros.
+use mathlib.Core.Path.{_≡_, sym}
+use Prim.Native.Nat.{_-_}
+use native.Mathlib.Omega.{arith}
+use lib.ListN.{length, take, replicate}
+use lib.Seq.{length-take-le}
+use Rattle.stream.proofs.Joined.{two-copies}
+use borrow.Author.Needs.{needs}
+use Rattle.stream.proofs.adding.join.Statement.{statement}
+use Rattle.stream.proofs.adding.join.Tie as tie
+
+held-long : (c : tie.Start) → length (take (c .args .n) (c .args .t2)) ≡ c .args .n
+held-long c =
+    let eight : length (c .args .t2) ≡ 8 = search needs in
+    length-take-le (c .args .n) (c .args .t2) (omega arith)
+
+slice-aggregate-copy : tie.Need-slice-aggregate-copy
+slice-aggregate-copy c = search needs
+
+array-share-prefix-held : tie.Need-array-share-prefix-held
+array-share-prefix-held c = search needs
+
+slice-aggregate-copy-2 : tie.Need-slice-aggregate-copy-2
+slice-aggregate-copy-2 c = sym (held-long (c .before .before .before))
+
+copy-requires : tie.Need-copy-requires
+copy-requires c κs = omega (arith, held-long (c .before .before .before))
+
+mul-joint : tie.Need-mul-joint
+mul-joint c = search needs
+
+sub-copy : tie.Need-sub-copy
+sub-copy c = search needs
+
+part-joint-start : tie.Need-part-joint-start
+part-joint-start c = search needs
+
+part-joint-end : tie.Need-part-joint-end
+part-joint-end c = search needs
+
+copy-requires-2 : tie.Need-copy-requires-2
+copy-requires-2 c κs = search needs
+
+returns : tie.Need-returns
+returns c =
+    let first = c .before .before .before .before in
+    let start = first .before .before .before .before in
+    let a = start .args in
+    two-copies (a .n) (16 - a .n) (take (a .n) (a .t2)) (a .key .now) (replicate 16 0) _ _ (held-long start) (omega arith) (first .copy .ensures) (c .before .copy2 .ensures)
+
+pub join-spec : {M : Type 1} → statement M
+join-spec =
+    tie.close
+    (tie.spec
+    slice-aggregate-copy
+    array-share-prefix-held
+    slice-aggregate-copy-2
+    copy-requires
+    mul-joint
+    sub-copy
+    part-joint-start
+    part-joint-end
+    copy-requires-2
+    returns)

@@ -1,0 +1,41 @@
+-- `stream::adding::push_fit` meets its contract: an accepted push has passed all that the sums and the key words ask.
+use mathlib.Core.Path.{_≡_, sym}
+use native.Mathlib.Omega.{arith}
+use lib.ListN.{length}
+use Rattle.stream.proofs.Judged.{Takes, takes}
+use Rattle.stream.proofs.Padded.{pushed-from}
+use borrow.Author.Needs.{needs}
+use Rattle.stream.proofs.adding.push_fit.Statement.{statement}
+use Rattle.stream.proofs.adding.push_fit.Tie as tie
+
+accepted : (c : tie.Start) → Takes (c .args .s) (c .args .message .now) (c .args .key .now)
+accepted c = takes _ _ _ (c .pre)
+
+cast-n : tie.Need-cast-n
+cast-n c = search needs
+
+add-sums-requires : tie.Need-add-sums-requires
+add-sums-requires c κs =
+    let t = accepted (c .before .before .before .before .before) in
+    (t .state .settings .width-high, t .state .settings .count-high, sym (t .words))
+
+last-keys-requires : tie.Need-last-keys-requires
+last-keys-requires c κs = accepted (c .before .before .before .before .before .before) .state .settings .count-high
+
+cast-words : tie.Need-cast-words
+cast-words c = omega (arith, accepted (c .before .before .before .before .before .before .before) .room)
+
+add-taken : tie.Need-add-taken
+add-taken c = omega (arith, accepted (c .before .before .before .before .before .before .before .before) .room)
+
+returns : tie.Need-returns
+returns c =
+    let start = c .before .before .before .before .before .before .before .before in
+    let a = start .args in
+    let state = accepted start .state in
+    let eight : length (a .s .sums) ≡ 8 = search needs in
+    pushed-from (a .s) (a .message .now) (a .key .now) _ _ (state .settings .count-high) eight (state .unused-sums) (c .before .last-keys .ensures) (c .before .before .add-sums .ensures)
+
+pub push-fit-spec : {M : Type 1} → statement M
+push-fit-spec =
+    tie.close (tie.spec cast-n add-sums-requires last-keys-requires cast-words add-taken returns)
