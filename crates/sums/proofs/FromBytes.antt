@@ -2,8 +2,8 @@
 use mathlib.Core.Path.{_≡_, refl, sym, ap, subst, _∙_}
 use mathlib.Core.Bool.{Bool, true, false, false≢true}
 use mathlib.Core.List.{List}
-use Prim.Native.Nat.{ℕ, zero, suc, _+_, _*_, _/_, _%_, _^_, _≤_, _<_}
-use native.Mathlib.Nat.{add-zero, zero-mul, suc-mul, add-comm, div-add-mod', mod-lt, div-eq-of-lt-le, le-div-iff-mul-le, not-suc-le-zero, le-of-suc-le-suc, div-mul-le-self}
+use Prim.Native.Nat.{ℕ, zero, suc, _+_, _-_, _*_, _/_, _%_, _^_, _≤_, _<_}
+use native.Mathlib.Nat.{add-zero, zero-mul, suc-mul, add-comm, div-add-mod', mod-lt, div-eq-of-lt-le, le-div-iff-mul-le, div-lt-iff-lt-mul, not-suc-le-zero, le-of-suc-le-suc, div-mul-le-self}
 use native.Mathlib.Omega.{arith}
 use native.Mathlib.Decide.{ℕ-discrete}
 use lib.Dec.{T, ltb, lt→ltb}
@@ -15,7 +15,8 @@ use Rattle.sums.specs.Digest.{fits, oneWord}
 use Rattle.sums.specs.Leaf.{orZero}
 use Rattle.sums.specs.Bytes.{littleEndian, wordsFrom, countOf, wordCount, wordsOf, byteWidth, wordsIn, leafFrom, leafBytes}
 use Rattle.sums.proofs.Words.{join}
-use Rattle.sums.proofs.Left.{Left, left-step}
+use Rattle.sums.specs.Left.{added, Left, allWords}
+use Rattle.sums.proofs.Left.{left-step, left-none}
 
 -- the lowest byte apart
 little-byte : (c at : ℕ) (xs : List ℕ) → littleEndian (suc c) (drop at xs) ≡ getD xs at 0 + 256 * littleEndian c (drop (at + 1) xs)
@@ -69,52 +70,71 @@ pub count-exact : (n c : ℕ) → 1 ≤ c → n ≤ n / c * c → countOf c n �
 unfolding countOf
 count-exact n c pos full = div-eq-of-lt-le c (omega (arith, div-mul-le-self n c)) (omega arith)
 
--- the bytes of a full word are there
-pub full-word : (n c i : ℕ) → 1 ≤ c → i < n / c → i * c + c ≤ n
-full-word n c i pos lt = let h : suc i * c ≤ n = le-div-iff-mul-le pos .0 lt in omega arith
+-- so many words as start inside the bytes
+module _ (n c i : ℕ) (pos : 1 ≤ c) where
+  pub inside : i * c < n → i < countOf c n
+  unfolding countOf
+  inside lt = le-div-iff-mul-le pos .1 (omega arith)
 
-pub full-counts : (n c : ℕ) → 1 ≤ c → n / c ≤ countOf c n
-unfolding countOf
-full-counts n c pos = le-div-iff-mul-le pos .1 (omega (arith, div-mul-le-self n c))
+  pub reached : n ≤ i * c → countOf c n ≤ i
+  unfolding countOf
+  reached le = let h : (n + (c - 1)) / c < i + 1 = div-lt-iff-lt-mul pos .1 (omega arith) in omega arith
 
--- the loop's step, for the word m of the bytes at place i
-pub bytes-step : (w c t : ℕ) (xs ks : List ℕ) (i at sum m r : ℕ)
-    → i < t
+-- before the end of the pairs two full words are there, and count
+pub pair-there : (n c i end : ℕ) → 1 ≤ c → end ≡ n / c / 2 * 2 → i % 2 ≡ 0 → i < end → (i * c + c + c ≤ n) × (i + 1 < countOf c n) × (i + 2 ≤ end)
+pair-there n c i end pos e even lt =
+    let h : suc (i + 1) * c ≤ n = le-div-iff-mul-le pos .0 (omega arith) in
+    (omega arith, inside n c (i + 1) pos (omega arith), omega arith)
+
+-- where the pairs end, at most two words are left
+pub pairs-end : (n c : ℕ) → 1 ≤ c → (n / c / 2 * 2 * c ≤ n) × (n ≤ (n / c / 2 * 2 + 2) * c)
+pairs-end n c pos =
+    let h : n < (n / c / 2 * 2 + 2) * c = div-lt-iff-lt-mul pos .0 (omega arith) in
+    (le-div-iff-mul-le pos .0 (omega arith), omega arith)
+
+-- the word m of the bytes at place i is added
+pub bytes-step : (w c : ℕ) (xs ks : List ℕ) (i j at m sum r : ℕ)
+    → 1 ≤ c
+    → j ≡ i + 1
     → at ≡ i * c
+    → at < length xs
     → m ≡ littleEndian c (drop at xs)
-    → r ≡ (sum + (m * getD ks i 0 + m * getD ks (i + 1) 0 / 2 ^ w)) % 2 ^ 64
-    → Left w (wordsFrom c t xs) ks sum i
-    → Left w (wordsFrom c t xs) ks r (i + 1)
-bytes-step w c t xs ks i at sum m r lt place word e h =
+    → r % 2 ^ w ≡ (sum + added w ks i m) % 2 ^ w
+    → Left w (allWords c xs) ks sum i
+    → Left w (allWords c xs) ks r j
+bytes-step w c xs ks i j at m sum r pos next place more word =
+    let t = wordCount c xs in
+    let lt : i < t = inside (length xs) c i pos (omega arith) in
     let m-is : m ≡ getD (wordsFrom c t xs) i 0 = word ∙ ap (λ (n : ℕ). littleEndian c (drop n xs)) place ∙ sym (words-at c t xs i lt) in
-    left-step w (wordsFrom c t xs) ks i (i + 1) sum r refl (omega (arith, words-length c t xs))
-    (e ∙ ap (λ (x : ℕ). (sum + (x * getD ks i 0 + x * getD ks (i + 1) 0 / 2 ^ w)) % 2 ^ 64) m-is)
-    h
+    left-step w (wordsFrom c t xs) ks i j m sum r next (omega (arith, words-length c t xs)) m-is
 
--- where the full words end: one word more where bytes are left, else none
-module _ (xs : List ℕ) (c i at : ℕ) (pos : 1 ≤ c) (all : i ≡ length xs / c) (place : at ≡ i * c) where
-  here : at ≡ length xs / c * c
-  here = place ∙ ap (λ (n : ℕ). n * c) all
-
-  pub one-left : at < length xs → wordCount c xs ≡ i + 1
-  one-left lt = count-more (length xs) c pos (omega (arith, here)) ∙ ap (λ (n : ℕ). n + 1) (sym all)
-
-  pub none-left : length xs ≤ at → wordCount c xs ≡ i
-  none-left le = count-exact (length xs) c pos (omega (arith, here)) ∙ sym all
+pub bytes-none : (w c : ℕ) (xs ks : List ℕ) (i sum : ℕ) → 1 ≤ c → length xs ≤ i * c
+    → Left w (allWords c xs) ks sum i
+    → sum % 2 ^ w ≡ oneWord w (allWords c xs) ks
+bytes-none w c xs ks i sum pos le =
+    left-none w (allWords c xs) ks i sum (omega (arith, words-length c (wordCount c xs) xs, reached (length xs) c i pos le))
 
 -- what the code's sum of bytes answers, by the key's length and the width
-module _ (w c : ℕ) (xs ks : List ℕ) where
-  pub from-short : length ks ≤ wordCount c xs → leafFrom w c xs ks ≡ 0
-  unfolding leafFrom orZero
-  from-short le = rw (le-ltb (wordCount c xs) (length ks) le)
+pub short-key : (w : ℕ) (xs ks : List ℕ) → length ks ≤ wordsIn w (length xs) → leafBytes w xs ks ≡ 0
+unfolding leafBytes leafFrom wordsIn orZero
+short-key w xs ks le = go (byteWidth w) le
+  where
+    go : (b : Bool) → length ks ≤ orZero b (wordCount (w / 8) xs) → orZero b (leafFrom w (w / 8) xs ks) ≡ 0
+    go true h = rw (le-ltb (wordCount (w / 8) xs) (length ks) h)
+    go false h = refl
 
-  pub from-long : wordCount c xs < length ks → leafFrom w c xs ks ≡ oneWord w (wordsFrom c (wordCount c xs) xs) ks
-  unfolding leafFrom orZero
-  from-long lt = rw (lt-ltb (wordCount c xs) (length ks) lt)
+pub from-long : (w c : ℕ) (xs ks : List ℕ) → wordCount c xs < length ks → leafFrom w c xs ks ≡ oneWord w (allWords c xs) ks
+unfolding leafFrom orZero
+from-long w c xs ks lt = rw (lt-ltb (wordCount c xs) (length ks) lt)
 
-pub at-width : (w v : ℕ) (xs ks : List ℕ) → w ≡ v → byteWidth v ≡ true → leafBytes w xs ks ≡ leafFrom w (v / 8) xs ks
-unfolding leafBytes orZero
-at-width w v xs ks e h = rw (e, h)
+module _ (w v : ℕ) (xs ks : List ℕ) (e : w ≡ v) (h : byteWidth v ≡ true) (lt : wordsIn w (length xs) < length ks) where
+  pub room : wordCount (v / 8) xs < length ks
+  unfolding wordsIn orZero
+  room = rw (e, h) at lt
+
+  pub at-width : leafBytes w xs ks ≡ oneWord w (allWords (v / 8) xs) ks
+  unfolding leafBytes orZero
+  at-width = rw (e, h) (from-long v (v / 8) xs ks room)
 
 pub other-width : (w : ℕ) (xs ks : List ℕ) → (w ≡ 8 → ⊥) → (w ≡ 16 → ⊥) → (w ≡ 32 → ⊥) → leafBytes w xs ks ≡ 0
 unfolding leafBytes byteWidth orZero

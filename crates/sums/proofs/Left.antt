@@ -1,39 +1,39 @@
 -- The loop of the one-word sum, by what is left of it.
-use mathlib.Core.Path.{_≡_}
+use mathlib.Core.Path.{_≡_, sym, ap, _∙_}
 use mathlib.Core.List.{List}
-use Prim.Native.Nat.{ℕ, _+_, _*_, _/_, _%_, _^_, _≤_, _<_}
-use native.Mathlib.Nat.{add-zero}
+use Prim.Native.Nat.{ℕ, _+_, _%_, _^_, _≤_, _<_}
+use native.Mathlib.Nat.{zero-add, zero-div, add-zero, add-assoc, mod-add-mod}
 use native.Mathlib.Numerals.{add-one}
-use native.Mathlib.Omega.{arith}
 use lib.ListN.{length, getD, drop, drop-of-length-le}
 use lib.Seq.{drop-cons, drop-drop, getD-drop}
-use Rattle.sums.specs.Digest.{wholeSum}
+use Rattle.sums.specs.Digest.{wholeSum, oneWord}
+use Rattle.sums.specs.Left.{together, added, Left}
 use Rattle.sums.proofs.Laws.{sum-cons}
 
--- the sum so far and that of the words from i on make the whole sum, modulo 2^64
-abbrev pub Left : ℕ → List ℕ → List ℕ → ℕ → ℕ → Type 0
-Left w ms ks sum i = (sum + wholeSum w (drop i ms) (drop i ks)) % 2 ^ 64 ≡ wholeSum w ms ks % 2 ^ 64
+module _ (w : ℕ) (ms ks : List ℕ) where
+  one-more : (i : ℕ) → i < length ms → wholeSum w (drop i ms) (drop i ks) ≡ added w ks i (getD ms i 0) + wholeSum w (drop (i + 1) ms) (drop (i + 1) ks)
+  one-more i more = simp (drop-cons ms i 0 more, sum-cons, getD-drop, drop-drop, add-zero, add-one)
 
--- what the word at i adds, where j is the next place
-abbrev pub added : ℕ → List ℕ → List ℕ → ℕ → ℕ → ℕ
-added w ms ks i j = getD ms i 0 * getD ks i 0 + getD ms i 0 * getD ks j 0 / 2 ^ w
+  pub left-start : Left w ms ks (together w 0 0) 0
+  unfolding oneWord
+  left-start = rw (zero-div (2 ^ w), zero-add (wholeSum w ms ks))
 
-one-more : (w : ℕ) (ms ks : List ℕ) (i j : ℕ)
-    → j ≡ i + 1
-    → i < length ms
-    → wholeSum w (drop i ms) (drop i ks) ≡ added w ms ks i j + wholeSum w (drop j ms) (drop j ks)
-one-more w ms ks i j next more =
-    rw next (simp (drop-cons ms i 0 more, sum-cons, getD-drop, drop-drop, add-zero, add-one))
+  -- the word m at i is added
+  pub left-step : (i j m sum r : ℕ) → j ≡ i + 1 → i < length ms → m ≡ getD ms i 0
+      → r % 2 ^ w ≡ (sum + added w ks i m) % 2 ^ w
+      → Left w ms ks sum i
+      → Left w ms ks r j
+  left-step i j m sum r next more word e h =
+      let rest = wholeSum w (drop (i + 1) ms) (drop (i + 1) ks) in
+      let here : wholeSum w (drop i ms) (drop i ks) ≡ added w ks i m + rest = rw word (one-more i more) in
+      rw next
+      (sym (mod-add-mod r (2 ^ w) rest)
+      ∙ ap (λ (n : ℕ). (n + rest) % 2 ^ w) e
+      ∙ mod-add-mod (sum + added w ks i m) (2 ^ w) rest
+      ∙ ap (λ (n : ℕ). n % 2 ^ w) (add-assoc sum (added w ks i m) rest ∙ ap (λ (n : ℕ). sum + n) (sym here))
+      ∙ h)
 
-pub left-step : (w : ℕ) (ms ks : List ℕ) (i j sum r : ℕ)
-    → j ≡ i + 1
-    → i < length ms
-    → r ≡ (sum + added w ms ks i j) % 2 ^ 64
-    → Left w ms ks sum i
-    → Left w ms ks r j
-left-step w ms ks i j sum r next more e h = omega (arith, one-more w ms ks i j next more)
-
--- past the last word nothing is left
-pub left-none : (w : ℕ) (ms ks : List ℕ) (i sum : ℕ) → length ms ≤ i → sum < 2 ^ 64 → Left w ms ks sum i → sum ≡ wholeSum w ms ks % 2 ^ 64
-unfolding wholeSum
-left-none w ms ks i sum h small l = let e = rw (drop-of-length-le ms h) at l in omega arith
+  -- past the last word nothing is left
+  pub left-none : (i sum : ℕ) → length ms ≤ i → Left w ms ks sum i → sum % 2 ^ w ≡ oneWord w ms ks
+  unfolding wholeSum
+  left-none i sum h l = rw (drop-of-length-le ms h, add-zero) at l

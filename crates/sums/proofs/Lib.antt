@@ -10,6 +10,7 @@ pub mod Words
 pub mod Demand3
 pub mod Corollaries
 pub mod Laws
+pub mod Apart
 pub mod Left
 pub mod Leaf
 pub mod FromBytes

@@ -4,3 +4,4 @@ pub mod Claims
 pub mod Corollaries
 pub mod Leaf
 pub mod Bytes
+pub mod Left

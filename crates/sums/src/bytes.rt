@@ -1,23 +1,28 @@
 // The one-word sum of a message of bytes, read where they lie.
 ghost use mathlib.Core.Path.{_≡_};
 ghost use mathlib.Core.Logic.{_≢_};
-ghost use Prim.Native.Nat.{_+_, _%_, _^_, _≤_, _<_};
+ghost use Prim.Native.Nat.{_+_, _≤_, _<_};
 ghost use lib.ListN.{length, getD, drop};
-ghost use Rattle.sums.specs.Digest.{wholeSum};
-ghost use Rattle.sums.specs.Bytes.{littleEndian, wordsFrom, countOf, wordCount, byteWidth, wordsIn, leafFrom, leafBytes};
+ghost use Rattle.sums.specs.Digest.{oneWord};
+ghost use Rattle.sums.specs.Bytes.{littleEndian, countOf, wordCount, byteWidth, wordsIn, leafBytes};
+ghost use Rattle.sums.specs.Left.{together, Left, allWords, paired};
 
 // The one-word digest of the words that the bytes make, at widths 8, 16 and 32; 0 at any other, or where the key is too short.
 pub fn one_word_of_bytes(w: u32, message: &[u8], key: &[u32]) -> u32
     ensures { λ r. ⌜ r ≡ leafBytes w (now (message .entry)) (now (key .entry)) ⌝ }
 {
+    if key.len() <= words_in(w, message.len()) {
+        return 0;
+    }
+    // A call for each width: the compiler makes a loop of its own of each.
     if w == 8 {
-        return byte_word(w, 1, message, key);
+        return byte_word(w, 1, message, key, sum_pairs(w, 1, message, key));
     }
     if w == 16 {
-        return byte_word(w, 2, message, key);
+        return byte_word(w, 2, message, key, sum_pairs(w, 2, message, key));
     }
     if w == 32 {
-        return byte_word(w, 4, message, key);
+        return byte_word(w, 4, message, key, sum_pairs(w, 4, message, key));
     }
     0
 }
@@ -63,34 +68,43 @@ fn word_count(c: usize, bytes: usize) -> usize
     full
 }
 
-fn byte_word(w: u32, c: usize, message: &[u8], key: &[u32]) -> u32
-    requires { ⌜ (w ≤ 32) × (1 ≤ c) × (c ≤ 4) × (c ≢ 3) ⌝ }
-    ensures { λ r. ⌜ r ≡ leafFrom w c (now (message .entry)) (now (key .entry)) ⌝ }
-{
-    if key.len() <= word_count(c, message.len()) {
-        return 0;
-    }
-    crate::low_bits(sum_bytes(w, c, message, key), w)
-}
-
-// The sum modulo 2^64, where every word has two key words.
-fn sum_bytes(w: u32, c: usize, message: &[u8], key: &[u32]) -> u64
+// The sums of the full words, two to a turn; a full word that has no other beside it is left.
+fn sum_pairs(w: u32, c: usize, message: &[u8], key: &[u32]) -> crate::TwoSums
     requires { ⌜ (w ≤ 32) × (1 ≤ c) × (c ≤ 4) × (c ≢ 3) × (wordCount c (now message) < length (now key)) ⌝ }
-    ensures { λ r. ⌜ r ≡ wholeSum w (wordsFrom c (wordCount c (now (message .entry))) (now (message .entry))) (now (key .entry)) % 2 ^ 64 ⌝ }
+    ensures { λ r. ⌜ Left w (allWords c (now (message .entry))) (now (key .entry)) (together w (r .low) (r .high)) (paired c (now (message .entry))) ⌝ }
 {
-    let full = message.len() / c;
-    let mut sum: u64 = 0;
+    let end = message.len() / c / 2 * 2;
+    let mut sums = crate::TwoSums { low: 0, high: 0 };
     let mut i = 0;
     let mut at = 0;
-    while i < full {
-        sum = crate::add_term(w, sum, load(message, at, c), key[i], key[i + 1]);
-        i += 1;
-        at += c;
+    while i < end {
+        sums = crate::add_term(w, sums, load(message, at, c), key, i);
+        sums = crate::add_term(w, sums, load(message, at + c, c), key, i + 1);
+        i += 2;
+        at += 2 * c;
     }
-    if at < message.len() {
-        return crate::add_term(w, sum, last(message, at, c), key[i], key[i + 1]);
+    sums
+}
+
+// The digest, of the sums of the pairs and the words after them, two at most.
+fn byte_word(w: u32, c: usize, message: &[u8], key: &[u32], pairs: crate::TwoSums) -> u32
+    requires room { ⌜ (w ≤ 32) × (1 ≤ c) × (c ≤ 4) × (wordCount c (now message) < length (now key)) ⌝ }
+    requires { ⌜ Left w (allWords c (now message)) (now key) (together w (pairs .low) (pairs .high)) (paired c (now message)) ⌝ }
+    ensures { λ r. ⌜ r ≡ oneWord w (allWords c (now (message .entry))) (now (key .entry)) ⌝ }
+{
+    let i = message.len() / c / 2 * 2;
+    let at = i * c;
+    if message.len() <= at {
+        return crate::total(w, pairs);
     }
-    sum
+    let sums = crate::add_term(w, pairs, last(message, at, c), key, i);
+    if message.len() - at <= c {
+        return crate::total(w, sums);
+    }
+    crate::total(
+        w,
+        crate::add_term(w, sums, last(message, at + c, c), key, i + 1),
+    )
 }
 
 // A word of c bytes that are all there.
@@ -116,7 +130,7 @@ fn wide(byte: u8) -> u32
     byte as u32
 }
 
-// The last word, filled up with zero bytes.
+// A word of which bytes may be missing, filled up with zero bytes.
 fn last(bytes: &[u8], at: usize, c: usize) -> u32
     requires { ⌜ (1 ≤ c) × (c ≤ 4) × (at < length (now bytes)) ⌝ }
     ensures { λ r. ⌜ r ≡ littleEndian c (drop at (now (bytes .entry))) ⌝ }

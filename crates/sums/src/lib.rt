@@ -2,11 +2,12 @@
 pub mod bytes;
 
 ghost use mathlib.Core.Path.{_≡_};
-ghost use Prim.Native.Nat.{_+_, _*_, _/_, _%_, _^_, _≤_, _<_};
+ghost use Prim.Native.Nat.{_+_, _-_, _*_, _%_, _^_, _≤_, _<_};
 ghost use lib.ListN.{length};
 ghost use lib.Dec.{ltb};
-ghost use Rattle.sums.specs.Digest.{wholeSum, kept};
+ghost use Rattle.sums.specs.Digest.{oneWord, kept};
 ghost use Rattle.sums.specs.Leaf.{leafWord};
+ghost use Rattle.sums.specs.Left.{together, added};
 
 // The whole product, of up to 64 bits.
 pub fn product(a: u32, b: u32) -> u64
@@ -31,7 +32,7 @@ pub fn one_word(w: u32, message: &[u32], key: &[u32]) -> u32
         return 0;
     }
     if message.len() < key.len() {
-        return low_bits(sum_words(w, message, key), w);
+        return sum_words(w, message, key);
     }
     if key.len() == 0 {
         return 0;
@@ -39,38 +40,61 @@ pub fn one_word(w: u32, message: &[u32], key: &[u32]) -> u32
     // The message word over the last key word has no next key word; those after it have none at all.
     let n = key.len() - 1;
     let last = product(message[n], key[n]);
-    low_bits(
-        std::num::wrapping_add_u64(sum_words(w, &message[..n], key), last),
-        w,
-    )
+    let before = sum_words(w, &message[..n], key) as u64;
+    low_bits(std::num::wrapping_add_u64(before, last), w)
 }
 
-// The sum modulo 2^64, where every message word has two key words. Two words to a turn and no test
+// The sum of the products m·k, and that of the products m·next with their low w bits cleared, modulo 2^64.
+// Apart, they are shifted once, after the loop.
+struct TwoSums {
+    low: u64,
+    high: u64,
+}
+
+// The sum modulo 2^w, where every message word has two key words. Two words to a turn and no test
 // between them: the compiler then multiplies four words at a time with no shuffles.
-fn sum_words(w: u32, message: &[u32], key: &[u32]) -> u64
+fn sum_words(w: u32, message: &[u32], key: &[u32]) -> u32
     requires { ⌜ (w ≤ 32) × (length (now message) < length (now key)) ⌝ }
-    ensures { λ r. ⌜ r ≡ wholeSum w (now (message .entry)) (now (key .entry)) % 2 ^ 64 ⌝ }
+    ensures { λ r. ⌜ r ≡ oneWord w (now (message .entry)) (now (key .entry)) ⌝ }
 {
-    let mut sum: u64 = 0;
+    let mut sums = TwoSums { low: 0, high: 0 };
     let mut i = 0;
     while i + 1 < message.len() {
-        sum = add_term(w, sum, message[i], key[i], key[i + 1]);
-        sum = add_term(w, sum, message[i + 1], key[i + 1], key[i + 2]);
+        sums = add_term(w, sums, message[i], key, i);
+        sums = add_term(w, sums, message[i + 1], key, i + 1);
         i += 2;
     }
     if i < message.len() {
-        return add_term(w, sum, message[i], key[i], key[i + 1]);
+        return total(w, add_term(w, sums, message[i], key, i));
     }
-    sum
+    total(w, sums)
 }
 
-// The sum with what one message word adds, modulo 2^64.
-fn add_term(w: u32, sum: u64, m: u32, k: u32, next: u32) -> u64
-    requires { ⌜ w ≤ 32 ⌝ }
-    ensures { λ r. ⌜ r ≡ (sum + (m * k + m * next / 2 ^ w)) % 2 ^ 64 ⌝ }
+// The sums with what the message word m adds, over the key words at i and after it.
+fn add_term(w: u32, sums: TwoSums, m: u32, key: &[u32], i: usize) -> TwoSums
+    requires { ⌜ (w ≤ 32) × (i + 1 < length (now key)) ⌝ }
+    ensures { λ r. ⌜ together w (r .low) (r .high) % 2 ^ w ≡ (together w (sums .low) (sums .high) + added w (now (key .entry)) i m) % 2 ^ w ⌝ }
 {
-    let both = std::num::wrapping_add_u64(product(m, k), product(m, next) >> w);
-    std::num::wrapping_add_u64(sum, both)
+    let k = key[i];
+    let next = key[i + 1];
+    let low = std::num::wrapping_add_u64(sums.low, product(m, k));
+    let high = std::num::wrapping_add_u64(sums.high, product(m, next) & high_bits(w));
+    TwoSums { low, high }
+}
+
+// All bits of 64 but the low w.
+fn high_bits(w: u32) -> u64
+    requires { ⌜ w ≤ 32 ⌝ }
+    ensures { λ r. ⌜ r ≡ 2 ^ 64 - 2 ^ w ⌝ }
+{
+    0xffff_ffff_ffff_ffff - (power(w) - 1)
+}
+
+fn total(w: u32, sums: TwoSums) -> u32
+    requires { ⌜ w ≤ 32 ⌝ }
+    ensures { λ r. ⌜ r ≡ together w (sums .low) (sums .high) % 2 ^ w ⌝ }
+{
+    low_bits(std::num::wrapping_add_u64(sums.low, sums.high >> w), w)
 }
 
 // The low b bits of a word, for every b.

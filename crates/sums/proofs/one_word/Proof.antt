@@ -3,23 +3,22 @@ use Prim.Native.Nat.{_-_}
 use native.Mathlib.Omega.{arith}
 use borrow.Author.Needs.{needs}
 use lib.ListN.{length, length-take}
-use Rattle.sums.proofs.Leaf.{leaf-wide, leaf-long, leaf-short, leaf-none}
+use Rattle.sums.proofs.Leaf.{leaf-wide, leaf-one, leaf-short, leaf-none}
 use Rattle.sums.proofs.one_word.Statement.{statement}
 use Rattle.sums.proofs.one_word.Tie as tie
 
 returns : tie.Need-returns
-returns c = cc (leaf-wide (c .before .before .before .args .w) (c .before .before .before .args .message .now) (c .before .before .before .args .key .now) (c .if1 .taken))
+returns c =
+    let a = c .before .before .before .args in
+    cc (leaf-wide (a .w) (a .message .now) (a .key .now) (c .if1 .taken))
 
 sum-words-requires : tie.Need-sum-words-requires
 sum-words-requires c κs = search needs
 
-low-bits-requires : tie.Need-low-bits-requires
-low-bits-requires c κs = search needs
-
 returns-2 : tie.Need-returns-2
 returns-2 c =
-    let a = c .before .before .before .before .before .before .args in
-    cc (leaf-long (a .w) (a .message .now) (a .key .now) (search needs))
+    let a = c .before .before .before .before .before .args in
+    cc (leaf-one (a .w) (a .message .now) (a .key .now) (search needs))
 
 returns-3 : tie.Need-returns-3
 returns-3 c =
@@ -50,11 +49,14 @@ slice-aggregate-sum-words c = simp length-take (omega arith)
 sum-words-requires-2 : tie.Need-sum-words-requires-2
 sum-words-requires-2 c κs = (search needs, simp length-take (omega arith))
 
+cast-before : tie.Need-cast-before
+cast-before c = search needs
+
 wrapping-add-u64-requires : tie.Need-wrapping-add-u64-requires
 wrapping-add-u64-requires c κs = search needs
 
-low-bits-requires-2 : tie.Need-low-bits-requires-2
-low-bits-requires-2 c κs = search needs
+low-bits-requires : tie.Need-low-bits-requires
+low-bits-requires c κs = search needs
 
 returns-4 : tie.Need-returns-4
 returns-4 c =
@@ -67,7 +69,6 @@ one-word-spec =
     (tie.spec
     returns
     sum-words-requires
-    low-bits-requires
     returns-2
     returns-3
     sub-n
@@ -78,6 +79,7 @@ one-word-spec =
     product-requires
     slice-aggregate-sum-words
     sum-words-requires-2
+    cast-before
     wrapping-add-u64-requires
-    low-bits-requires-2
+    low-bits-requires
     returns-4)
