@@ -23,7 +23,7 @@ lines() {
         functions=$(sed -n 's/.*functions=\([0-9]*\).*/\1/p' <<<"$verdict")
         axioms=$(sed -n 's/.*axioms=\([0-9]*\).*/\1/p' <<<"$verdict")
         seconds=$(sed -n "s/^rt: $name proved (\([0-9]*\) s)$/\1/p" "$log")
-        edits=$(find "$crate/must-fail" -name '*.edit' 2>/dev/null | wc -l)
+        edits=$(find "$crate" -path '*/must-fail/*.edit' | wc -l)
         echo "| $name | $functions | ${axioms:-0} | $(lines "$crate/src" '*.rt') | $(lines "$crate/specs" '*.antt') | $(lines "$crate/proofs" '*.antt') | $edits | $seconds |"
     done <crates.txt
 } >"$table"
