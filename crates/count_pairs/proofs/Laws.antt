@@ -7,8 +7,8 @@ use native.Mathlib.Nat.{mod-mod, mul-zero}
 use native.Mathlib.Numerals.{add-one}
 use native.Mathlib.Omega.{arith}
 use lib.Dec.{eqb}
-use Rattle.sums.specs.Count.{sumTo, count, overRows, asNumber, sameRow}
-use Rattle.sums.specs.Digest.{wholeSum, oneWord, fullWords, kept, digest}
+use Rattle.counts.specs.Count.{sumTo, count, overRows, asNumber, sameRow}
+use Rattle.counts.specs.Digest.{wholeSum, oneWord, fullWords, kept, digest}
 use Rattle.sums.specs.Leaf.{leafWord, orZero}
 use Rattle.count_pairs.specs.Agree.{agree, agreeing, agreeingAfter, agreeingAt}
 

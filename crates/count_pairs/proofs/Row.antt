@@ -10,7 +10,7 @@ use borrow.Author.Tests.{lt-ltb, ltb-true, ne-eqb}
 use lib.Dec.{ltb}
 use lib.ListN.{length, getD, set}
 use lib.Seq.{getD-set-same, getD-set-other}
-use Rattle.sums.specs.Count.{sumTo, asNumber}
+use Rattle.counts.specs.Count.{sumTo, asNumber}
 use Rattle.sums.specs.Leaf.{orZero}
 use Rattle.count_pairs.specs.Agree.{agreeing}
 use Rattle.count_pairs.specs.Search.{cellAt, Filled, First, standsAt, reaches, Largest}

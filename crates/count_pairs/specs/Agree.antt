@@ -2,8 +2,8 @@
 use mathlib.Core.Bool.{Bool}
 use mathlib.Core.List.{List, [], _∷_}
 use Prim.Native.Nat.{ℕ}
-use Rattle.sums.specs.Count.{count, sameRow}
-use Rattle.sums.specs.Digest.{digest}
+use Rattle.counts.specs.Count.{count, sameRow}
+use Rattle.counts.specs.Digest.{digest}
 
 -- the two messages have the same digest under the key
 unfoldable pub agree : ℕ → ℕ → List ℕ → Bool

@@ -5,7 +5,7 @@ use mathlib.Core.List.{List}
 use Prim.Native.Nat.{ℕ, _+_, _*_, _/_, _%_, _≤_, _<_}
 use lib.Dec.{ltb, eqb}
 use lib.ListN.{getD}
-use Rattle.sums.specs.Count.{sumTo, asNumber}
+use Rattle.counts.specs.Count.{sumTo, asNumber}
 use Rattle.sums.specs.Leaf.{orZero}
 use Rattle.count_pairs.specs.Agree.{agreeing}
 

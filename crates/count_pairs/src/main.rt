@@ -3,7 +3,7 @@ ghost use mathlib.Core.Path.{_≡_};
 ghost use Prim.Native.Nat.{_+_, _≤_, _<_};
 ghost use lib.Dec.{eqb};
 ghost use lib.ListN.{length};
-ghost use Rattle.sums.specs.Count.{sumTo, asNumber};
+ghost use Rattle.counts.specs.Count.{sumTo, asNumber};
 ghost use Rattle.count_pairs.specs.Agree.{agreeing, agreeingAfter, agreeingAt};
 ghost use Rattle.count_pairs.specs.Search.{cellAt, Filled, First, standsAt, Largest};
 use libc::STDOUT_FILENO;

@@ -1,5 +1,3 @@
-pub mod Fits
-pub mod Judged
-pub mod Outcome
-pub mod Written
+pub mod Agree
 pub mod FalseMatch
+pub mod Passed

@@ -1,10 +1,11 @@
 -- The byte digest's promise (01, "Bytes"): the digest of the words that the bytes make, answers and rows as for words.
 use mathlib.Core.List.{List, [], _∷_}
-use Prim.Native.Nat.{ℕ}
+use Prim.Native.Nat.{ℕ, _+_}
 use lib.ListN.{length}
-use Rattle.sums.specs.Digest.{digest}
-use Rattle.sums.specs.Bytes.{wordsOf}
-use Rattle.digest.specs.Answers.{firstOf, byteWidthTest, keptTest, countTest, longTest, keyTest, trayTest, wordTest, afterwards}
+use Rattle.counts.specs.Digest.{digest}
+use Rattle.answers.specs.Answers.{firstOf, afterwards}
+use Rattle.answers.specs.Table.{byteWidthTest, keptTest, countTest, longTest, keyTest, trayTest, wordTest}
+use Rattle.byte_sums.specs.Bytes.{wordsOf}
 
 -- 01, "then 1 to 7 in order"; Long counts words. 0 for an accepted call
 unfoldable pub bytesAnswer : ℕ → ℕ → ℕ → List ℕ → List ℕ → List ℕ → ℕ
@@ -14,7 +15,7 @@ bytesAnswer w b n bytes ks out =
     ∷ keptTest w b
     ∷ countTest n
     ∷ longTest (length (wordsOf w bytes))
-    ∷ keyTest (length (wordsOf w bytes)) n (length ks)
+    ∷ keyTest (length (wordsOf w bytes) + n) (length ks)
     ∷ trayTest n (length out)
     ∷ wordTest w (wordsOf w bytes) ks
     ∷ [])

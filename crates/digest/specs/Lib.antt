@@ -1,5 +1,3 @@
-pub mod Answers
 pub mod Words
 pub mod Bytes
 pub mod Match
-pub mod Sizes

@@ -5,11 +5,12 @@ use mathlib.Core.List.{List, [], _∷_}
 use Prim.Native.Nat.{ℕ, _+_, _*_, _-_, _^_, _≤_}
 use lib.Dec.{eqb}
 use lib.ListN.{length}
-use Rattle.sums.specs.Digest.{digest}
-use Rattle.sums.specs.Count.{count, sameRow}
-use Rattle.sums.specs.Claims.{Row}
-use Rattle.sums.specs.Corollaries.{InRange}
-use Rattle.digest.specs.Answers.{firstOf, countTest, matchTrayTest}
+use Rattle.counts.specs.Digest.{digest}
+use Rattle.counts.specs.Count.{count, sameRow}
+use Rattle.counts.specs.Claims.{Row}
+use Rattle.counts.specs.Corollaries.{InRange}
+use Rattle.answers.specs.Answers.{firstOf}
+use Rattle.answers.specs.Table.{countTest, matchTrayTest}
 
 -- Count, Tray, then 100 where the rows agree at all n places, else 101
 unfoldable pub matchAnswer : ℕ → List ℕ → List ℕ → ℕ
@@ -23,7 +24,8 @@ keysThatMatch w b n t first second = count w (t + n) (λ ks. eqb (matchAnswer n 
 unfoldable pub FalseMatches : Type 0
 FalseMatches =
     (w b n t : ℕ) (first second : List ℕ)
-    → InRange w b n t
+    → InRange w b n
+    → t ≤ 65536
     → Row w t first
     → Row w t second
     → first ≢ second

@@ -1,9 +1,10 @@
 -- The word digest's promise: w, b, n as in "The sum", the message, the key, and the output row as it is lent.
 use mathlib.Core.List.{List, [], _∷_}
-use Prim.Native.Nat.{ℕ}
+use Prim.Native.Nat.{ℕ, _+_}
 use lib.ListN.{length}
-use Rattle.sums.specs.Digest.{digest}
-use Rattle.digest.specs.Answers.{firstOf, widthTest, keptTest, countTest, longTest, keyTest, trayTest, wordTest, afterwards}
+use Rattle.counts.specs.Digest.{digest}
+use Rattle.answers.specs.Answers.{firstOf, afterwards}
+use Rattle.answers.specs.Table.{widthTest, keptTest, countTest, longTest, keyTest, trayTest, wordTest}
 
 -- 01, "then 1 to 7 in order"; 0 for an accepted call
 unfoldable pub digestAnswer : ℕ → ℕ → ℕ → List ℕ → List ℕ → List ℕ → ℕ
@@ -13,7 +14,7 @@ digestAnswer w b n ms ks out =
     ∷ keptTest w b
     ∷ countTest n
     ∷ longTest (length ms)
-    ∷ keyTest (length ms) n (length ks)
+    ∷ keyTest (length ms + n) (length ks)
     ∷ trayTest n (length out)
     ∷ wordTest w ms ks
     ∷ [])

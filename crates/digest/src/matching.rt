@@ -2,24 +2,18 @@
 ghost use mathlib.Core.Path.{_≡_};
 ghost use lib.Dec.{eqb};
 ghost use lib.ListN.{length};
-ghost use Rattle.sums.specs.Count.{sameRow};
+ghost use Rattle.counts.specs.Count.{sameRow};
 ghost use Rattle.digest.specs.Match.{matchAnswer};
-use crate::answers;
+use answers::table;
 
 // 100 where the two rows of n words agree at every place, 101 where they do not, or the number of the test that refuses.
 pub fn digests_match(n: u32, first: &[u32], second: &[u32]) -> u32
     ensures { λ r. ⌜ r ≡ matchAnswer n (now (first .entry)) (now (second .entry)) ⌝ }
 {
-    if n < 1 {
+    if table::bad_count(n) {
         return answers::COUNT;
     }
-    if 8 < n {
-        return answers::COUNT;
-    }
-    if first.len() != n as usize {
-        return answers::TRAY;
-    }
-    if second.len() != n as usize {
+    if table::bad_rows(n as usize, first.len(), second.len()) {
         return answers::TRAY;
     }
     if unlike(first, second) == 0 {

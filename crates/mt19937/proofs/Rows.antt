@@ -1,73 +1,105 @@
--- A row of key words, block by block: a refill, and then the key words of the state words in order.
+-- Rows of key words: one row after another, and the block that one filled state gives.
 use Prim.Native.Nat.{ℕ, zero, suc, _+_, _-_, _≤_, _<_, min}
-use mathlib.Core.Path.{_≡_, refl, sym, _∙_}
-use mathlib.Core.List.{List, _∷_, _++_, append-assoc, append-nil}
-use native.Mathlib.Nat.{zero-add, suc-add, add-suc}
+use mathlib.Core.Path.{_≡_, refl, sym, ap, _∙_}
+use mathlib.Core.List.{List, [], _∷_, _++_, append-assoc, append-nil}
+use native.Mathlib.Nat.{zero-add, suc-add, add-zero, add-assoc}
 use native.Mathlib.Numerals.{add-one}
 use native.Mathlib.Omega.{arith}
 use lib.ListN.{length, take, drop, length-append, length-take, length-drop}
-use lib.Seq.{append-snoc, take-at, take-all, length-take-le}
-use Rattle.mt19937.specs.Published.{table, generator, refill, taken}
-use Rattle.mt19937.specs.Stretch.{outputs, keyAt, keyRow}
-use Rattle.mt19937.proofs.Laws.{length-table, next-refill, next-within}
+use lib.Seq.{take-at, take-all, length-take-le, drop-length}
+use Rattle.rows.specs.Written.{table}
+use Rattle.rows.proofs.Written.{length-table}
+use Rattle.mt19937.specs.Published.{generator, ready, taken, nextOf}
+use Rattle.mt19937.specs.Stretch.{outputs, after, keyWord, keyFrom, keyRow}
+use Rattle.mt19937.specs.declared.Generator.{Generator}
+use Rattle.mt19937.specs.declared.Next.{Next}
+use Rattle.mt19937.proofs.Laws.{next-taken, next-within}
 
-row-one : (w : ℕ) (ws : List ℕ) (k m : ℕ) → k < 624
-    → keyRow w (generator ws k) (suc m) ≡ keyAt w ws k ∷ keyRow w (generator ws (suc k)) m
-unfolding keyRow outputs keyAt taken
-row-one w ws k m h = rw (next-within ws k h, add-one k)
+-- a longer row goes on from the state after its first part
+pub row-more : (w n m : ℕ) (g : Generator) → keyRow w g (n + m) ≡ keyRow w g n ++ keyRow w (after n g) m
+unfolding keyRow outputs after
+row-more w zero m g = rw zero-add
+row-more w (suc n) m g = rw (suc-add n m) (ap (λ (l : List ℕ). keyWord w (nextOf g .word) ∷ l) (row-more w n m (nextOf g .state)))
 
--- k words within one state
-row-run : (w : ℕ) (ws : List ℕ) (k m : ℕ) → k ≤ 624
-    → keyRow w (generator ws 0) (k + m) ≡ table (keyAt w ws) k ++ keyRow w (generator ws k) m
-unfolding table
-row-run w ws zero m h = rw zero-add
-row-run w ws (suc k) m h =
-    rw (suc-add k m, ← add-suc k m, row-run w ws k (suc m) (omega arith), row-one w ws k m h) (sym (append-snoc (table (keyAt w ws) k) (keyAt w ws k) _))
+pub after-more : (n m : ℕ) (g : Generator) → after (n + m) g ≡ after m (after n g)
+unfolding after
+after-more zero m g = rw zero-add
+after-more (suc n) m g = rw (suc-add n m) (after-more n m (nextOf g .state))
 
--- the first word of a used-up state refills it
-row-refill : (w : ℕ) (ws : List ℕ) (n : ℕ) → keyRow w (generator ws 624) (suc n) ≡ keyRow w (generator (refill ws) 0) (suc n)
+pub row-length : (w n : ℕ) (g : Generator) → length (keyRow w g n) ≡ n
 unfolding keyRow outputs
-row-refill w ws n = rw (next-refill ws 624 refl, next-within (refill ws) 0 (omega arith))
+row-length w zero g = refl
+row-length w (suc n) g = ap suc (row-length w n (nextOf g .state))
 
--- where no word is left, any position serves
-row-rest : (w : ℕ) (ws : List ℕ) (k m : ℕ) → (0 < m → k ≡ 624) → keyRow w (generator ws k) m ≡ keyRow w (generator ws 624) m
-unfolding keyRow outputs
-row-rest w ws k zero h = refl
-row-rest w ws k (suc m) h = rw (h (omega arith))
+-- a row that fills the whole of an old one leaves nothing of it
+pub row-whole : (w : ℕ) (g : Generator) (old : List ℕ) → let row = keyRow w g (length old) in row ≡ row ++ drop (length row) old
+row-whole w g old = sym (rw (row-length w (length old) g, drop-length old) (append-nil (keyRow w g (length old))))
 
-block : (w : ℕ) (ws : List ℕ) (k m : ℕ) → 0 < k → k ≤ 624 → (0 < m → k ≡ 624)
-    → keyRow w (generator ws 624) (k + m) ≡ table (keyAt w (refill ws)) k ++ keyRow w (generator (refill ws) 624) m
-block w ws zero m p h r = let z : ⊥ = omega arith in absurd z
-block w ws (suc k) m p h r =
-    rw (suc-add k m, row-refill w ws (k + m), ← suc-add k m, row-run w (refill ws) (suc k) m h, row-rest w (refill ws) (suc k) m r)
-
--- the two first of three parts
-take-two : (a b c : List ℕ) (n : ℕ) → length a + length b ≡ n → take n (a ++ (b ++ c)) ≡ a ++ b
-take-two a b c n e = rw (← append-assoc a b c) (take-at (a ++ b) c n (length-append a b ∙ e))
-
--- one more block: what is written and what is left make the whole row again
-pub row-next : (w n at end : ℕ) (ws ws′ out part whole : List ℕ) → at < n → end ≡ min (at + 624) n → length out ≡ n
-    → ws′ ≡ refill ws → part ≡ table (keyAt w ws′) (length (take (end - at) (drop at out)))
-    → take at out ++ keyRow w (generator ws 624) (n - at) ≡ whole
-    → (end ≤ n) × (length (take at out ++ (part ++ drop (end - at) (drop at out))) ≡ n)
-    × (take end (take at out ++ (part ++ drop (end - at) (drop at out))) ++ keyRow w (generator ws′ 624) (n - end) ≡ whole)
-row-next w n at end ws ws′ out part whole h e l e₁ e₂ i =
-    let k : length (take (end - at) (drop at out)) ≡ end - at = simp (length-take, length-drop) (omega arith) in
-    let e₃ : part ≡ table (keyAt w (refill ws)) (end - at) = cc in
-    let front : length (take at out) ≡ at = length-take-le at out (omega arith) in
-    let mid : length part ≡ end - at = rw e₃ (length-table _ _) in
-    let parts : n - at ≡ (end - at) + (n - end) = omega arith in (
-      omega arith,
-      simp (length-append, length-drop) (omega arith),
-      rw (take-two (take at out) part (drop (end - at) (drop at out)) end (omega arith), append-assoc, e₁, e₃)
-          (rw (← block w ws (end - at) (n - end) (omega arith) (omega arith) (omega arith), ← parts) i),
+-- the k words from a position on, within one filled state
+block : (w : ℕ) (ws : List ℕ) (from k : ℕ) → from + k ≤ 624
+    → (keyRow w (generator ws from) k ≡ table (keyFrom w ws from) k) × (after k (generator ws from) ≡ generator ws (from + k))
+unfolding keyRow outputs after table keyFrom taken
+block w ws from zero h = (refl, rw add-zero)
+block w ws from (suc k) h =
+    let g = generator ws from in
+    let b = block w ws from k (omega arith) in
+    let n = next-within ws (from + k) (omega arith) in
+    let p : from + k + 1 ≡ from + suc k = omega arith in (
+      ap (keyRow w g) (sym (add-one k)) ∙ row-more w k 1 g ∙ rw (b .0, b .1, n),
+      ap (λ (i : ℕ). after i g) (sym (add-one k)) ∙ after-more k 1 g ∙ ap (after 1) (b .1) ∙ ap (λ (x : Next). x .state) n ∙ ap (generator ws) p,
     )
 
--- all blocks written: nothing is left
-pub row-done : (w n at : ℕ) (ws out whole : List ℕ) → n ≤ at → length out ≡ n
-    → take at out ++ keyRow w (generator ws 624) (n - at) ≡ whole → out ≡ whole
-unfolding keyRow outputs
-row-done w n at ws out whole h l i =
-    let none : n - at ≡ 0 = omega arith in
-    let all : take at out ≡ out = take-all at out (omega arith) in
-    rw (none, append-nil, all) at i
+-- the k words from any state on, where those words are left once it is ready
+block-ready : (w k : ℕ) (g : Generator) (ws : List ℕ) (from : ℕ) → g .at ≤ 624 → generator ws from ≡ ready g → from < 624 → 0 < k → from + k ≤ 624
+    → (keyRow w g k ≡ table (keyFrom w ws from) k) × (after k g ≡ generator ws (from + k))
+unfolding keyRow outputs after
+block-ready w zero g ws from h e r p b = absurd (omega arith)
+block-ready w (suc k) g ws from h e r p b =
+    let n : nextOf g ≡ nextOf (generator ws from) = next-taken g h ∙ ap taken (sym e) ∙ sym (next-within ws from r) in
+    let here = block w ws from (suc k) b in
+    (rw n (here .0), rw n (here .1))
+
+-- before a turn of the loop: the first done places are written, and the state is the one after them
+pub record Begun (w : ℕ) (g : Generator) (n : ℕ) (ws : List ℕ) (used : ℕ) (out : List ℕ) (done : ℕ) : Type 0 where
+  pub within : done ≤ n
+  pub long : length out ≡ n
+  pub fit : used ≤ 624
+  pub row : take done out ≡ keyRow w g done
+  pub state : generator ws used ≡ after done g
+
+pub row-none : (w : ℕ) (ws : List ℕ) (used : ℕ) (out : List ℕ) → used ≤ 624 → Begun w (generator ws used) (length out) ws used out 0
+unfolding keyRow outputs after
+row-none w ws used out h = record { within = omega arith; long = refl; fit = h; row = refl; state = refl }
+
+-- one more block, in the form in which a part of a row is lent
+pub row-next : (w n from end done used : ℕ) (g : Generator) (ws ws′ out part : List ℕ) → done < n
+    → generator ws′ from ≡ ready (generator ws used) → from < 624 → end ≡ min (done + (624 - from)) n
+    → part ≡ table (keyFrom w ws′ from) (length (take (end - done) (drop done out)))
+    → Begun w g n ws used out done
+    → Begun w g n ws′ (from + (end - done)) (take done out ++ (part ++ drop (end - done) (drop done out))) end
+row-next w n from end done used g ws ws′ out part h e r m p b =
+    let k = end - done in
+    let whole : done + k ≡ end = omega arith in
+    let size : length (take k (drop done out)) ≡ k = simp (length-take, length-drop) (omega arith) in
+    let here = block-ready w k (generator ws used) ws′ from (b .fit) e r (omega arith) (omega arith) in
+    let words : part ≡ keyRow w (after done g) k = p ∙ ap (table (keyFrom w ws′ from)) size ∙ sym (here .0) ∙ ap (λ (x : Generator). keyRow w x k) (b .state) in
+    let front : length (take done out) ≡ done = length-take-le done out (omega arith) in
+    let mid : length part ≡ k = ap length words ∙ row-length w k (after done g) in
+    record {
+      within = omega arith;
+      long = simp (length-append, length-drop) (omega arith);
+      fit = omega arith;
+      row = take-two (take done out) part (drop k (drop done out)) end (omega arith) ∙ rw (b .row, words) (sym (row-more w done k g) ∙ ap (keyRow w g) whole);
+      state = sym (here .1) ∙ ap (after k) (b .state) ∙ sym (after-more done k g) ∙ ap (λ (i : ℕ). after i g) whole;
+    }
+  where
+    -- the two first of three parts
+    take-two : (a b c : List ℕ) (i : ℕ) → length a + length b ≡ i → take i (a ++ (b ++ c)) ≡ a ++ b
+    take-two a b c i e = rw (← append-assoc a b c) (take-at (a ++ b) c i (length-append a b ∙ e))
+
+pub row-all : (w n used done : ℕ) (g : Generator) (ws out : List ℕ) → n ≤ done → Begun w g n ws used out done
+    → (out ≡ keyRow w g n) × (generator ws used ≡ after n g) × (used ≤ 624)
+row-all w n used done g ws out h b =
+    let all : done ≡ n = omega arith in
+    let row : take done out ≡ out = take-all done out (omega arith) in
+    (sym row ∙ b .row ∙ ap (keyRow w g) all, b .state ∙ ap (λ (i : ℕ). after i g) all, b .fit)

@@ -1,4 +1,3 @@
 -- The definitions that the contracts cite.
-pub mod Answers
 pub mod Published
 pub mod Stretch

@@ -2,18 +2,15 @@
 -- A shift right by k is a division by 2 ^ k, and a shift left a product that keeps 32 bits.
 use Prim.Native.Nat.{ℕ, zero, suc, _+_, _*_, _/_, _%_, _^_}
 use mathlib.Core.Bool.{cond}
-use mathlib.Core.List.{List, [], _∷_, _++_}
+use mathlib.Core.List.{List, [], _∷_}
 use lib.Bits.{bitAnd, bitOr, bitXor}
-use lib.Dec.{eqb, ltb}
+use lib.Dec.{eqb, leb}
 use lib.ListN.{getD, set}
-use Rattle.mt19937.specs.Answers.{answerAccepted, answerState}
+use Rattle.rows.specs.Written.{table}
+use Rattle.answers.specs.Answers.{firstOf}
+use Rattle.answers.specs.Table.{stateTest}
 use Rattle.mt19937.specs.declared.Generator.{Generator}
 use Rattle.mt19937.specs.declared.Next.{Next}
-
--- the row f 0, f 1, .. of n words
-unfoldable pub table : (ℕ → ℕ) → ℕ → List ℕ
-table f zero = []
-table f (suc n) = table f n ++ (f n ∷ [])
 
 -- the steps f 0, f 1, .. in order and in place, n of them
 unfoldable pub steps : (ℕ → List ℕ → List ℕ) → ℕ → List ℕ → List ℕ
@@ -71,13 +68,12 @@ temper y =
 
 -- 01, The generator, Next: the word at the position, which rises by one, is changed and given
 unfoldable pub taken : Generator → Next
-taken g =
-    record {
-      answer = answerAccepted;
-      word = temper (getD (g .words) (g .at) 0);
-      state = generator (g .words) (g .at + 1);
-    }
+taken g = record { answer = 0; word = temper (getD (g .words) (g .at) 0); state = generator (g .words) (g .at + 1) }
 
--- 01, Numbers the agent sees, State: a position above 624 refuses; the word is then 0, and the state is the old one
+-- 01, Numbers the agent sees: State, a generator position above 624
+unfoldable pub nextAnswer : Generator → ℕ
+nextAnswer g = firstOf (stateTest (leb (g .at) 624) ∷ []) 0
+
+-- 01, Numbers the agent sees: a refusal returns its number with the old state; the word is then 0
 unfoldable pub nextOf : Generator → Next
-nextOf g = cond (ltb 624 (g .at)) (record { answer = answerState; word = 0; state = g }) (taken (ready g))
+nextOf g = cond (eqb (nextAnswer g) 0) (taken (ready g)) (record { answer = nextAnswer g; word = 0; state = g })

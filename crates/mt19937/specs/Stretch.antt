@@ -1,10 +1,9 @@
--- The stretch of a seed into key words, as document 01 has it: the row that it writes, and what it answers.
-use Prim.Native.Nat.{ℕ, zero, suc, _%_, _^_}
-use mathlib.Core.Bool.{cond, _||_}
+-- Rows of key words and the stretch of a seed, as document 01 has them: the row that it writes, and what it answers.
+use Prim.Native.Nat.{ℕ, zero, suc, _+_, _%_, _^_}
 use mathlib.Core.List.{List, [], _∷_, map}
-use lib.Dec.{eqb, ltb}
 use lib.ListN.{getD, length}
-use Rattle.mt19937.specs.Answers.{answerAccepted, answerWidth, answerLong}
+use Rattle.answers.specs.Answers.{firstOf, afterwards}
+use Rattle.answers.specs.Table.{widthTest, longStretchTest}
 use Rattle.mt19937.specs.Published.{seeded, temper, nextOf}
 use Rattle.mt19937.specs.declared.Generator.{Generator}
 
@@ -13,23 +12,27 @@ unfoldable pub outputs : ℕ → Generator → List ℕ
 outputs zero g = []
 outputs (suc n) g = nextOf g .word ∷ outputs n (nextOf g .state)
 
+-- the state after n outputs
+unfoldable pub after : ℕ → Generator → Generator
+after zero g = g
+after (suc n) g = after n (nextOf g .state)
+
 -- 01, The generator: a key word is the output modulo 2^w
 unfoldable pub keyWord : ℕ → ℕ → ℕ
 keyWord w output = output % 2 ^ w
 
--- the key word that the state word at i gives
-unfoldable pub keyAt : ℕ → List ℕ → ℕ → ℕ
-keyAt w ws i = keyWord w (temper (getD ws i 0))
+-- the key words that the state words give from a position on
+unfoldable pub keyFrom : ℕ → List ℕ → ℕ → ℕ → ℕ
+keyFrom w ws from i = keyWord w (temper (getD ws (from + i) 0))
 
 -- 01, The generator: a row of n key words, each the next output
 unfoldable pub keyRow : ℕ → Generator → ℕ → List ℕ
 keyRow w g n = map (keyWord w) (outputs n g)
 
--- 01, Numbers the agent sees: Width, w is not 1..32; Long, a stretch of more than 65,544 words
+-- 01, Numbers the agent sees: Width, and Long of a stretch
 unfoldable pub stretchAnswer : ℕ → ℕ → ℕ
-stretchAnswer w places = cond (ltb w 1 || ltb 32 w) answerWidth (cond (ltb 65544 places) answerLong answerAccepted)
+stretchAnswer w places = firstOf (widthTest w ∷ longStretchTest places ∷ []) 0
 
--- 01, The generator: a stretch fills the whole lent row; after a refusal the row holds what it held
+-- 01, The generator: a stretch makes the generator new and fills the whole lent row
 unfoldable pub stretched : ℕ → ℕ → List ℕ → List ℕ
-stretched w seed row =
-    cond (eqb (stretchAnswer w (length row)) answerAccepted) (keyRow w (seeded seed) (length row)) row
+stretched w seed row = afterwards (stretchAnswer w (length row)) (keyRow w (seeded seed) (length row)) row

@@ -1,24 +1,12 @@
 // MT19937 of Matsumoto and Nishimura, in its 2002 initialisation, and the stretch of a seed into key words.
 ghost use mathlib.Core.Path.{_≡_};
 ghost use mathlib.Core.List.{List};
-ghost use Prim.Native.Nat.{ℕ, _+_, _-_, _%_, _^_, _≤_, _<_, min};
+ghost use Prim.Native.Nat.{ℕ, _+_, _-_, _%_, _≤_, _<_};
 ghost use lib.ListN.{length};
-ghost use Rattle.mt19937.specs.Published.{table, steps, generator, following, newWords, seeded, joined, twisted, twist, refill, temper, taken, nextOf};
-ghost use Rattle.mt19937.specs.Stretch.{keyWord, keyAt, keyRow, stretchAnswer, stretched};
+ghost use Rattle.mt19937.specs.Published.{steps, generator, following, newWords, seeded, joined, twisted, twist, refill, ready, temper, taken, nextOf};
+ghost use Rattle.mt19937.specs.Stretch.{stretchAnswer, stretched};
 
-// What a call answers.
-pub const ACCEPTED: u32 = 0;
-
-pub const WIDTH: u32 = 1;
-
-pub const LONG: u32 = 4;
-
-pub const STATE: u32 = 8;
-
-// The widest key word, and the longest row that a stretch fills.
-pub const MOST_BITS: u32 = 32;
-
-pub const MOST_WORDS: usize = 65_544;
+mod keys;
 
 // The words of the state, and how many of them are used up. Any state with at most 624 used up is fit.
 pub struct Generator {
@@ -83,17 +71,14 @@ impl Generator {
         let at = self.at;
         if at > Self::SIZE {
             return Next {
-                answer: STATE,
+                answer: answers::STATE,
                 word: 0,
                 state: self,
             };
         }
         let mut words = self.words;
-        if at == Self::SIZE {
-            refill_all(&mut words);
-            return take_at(words, 0);
-        }
-        take_at(words, at)
+        let from = make_ready(&mut words, at);
+        take_at(words, from)
     }
 }
 
@@ -162,6 +147,18 @@ fn refill_all(words: &mut [u32; 624])
     twist_at(words, Generator::LAST, 0, Generator::LAST_FAR);
 }
 
+// Refills a state that is used up. The position of the next word.
+fn make_ready(words: &mut [u32; 624], at: usize) -> usize
+    requires { ⌜ at ≤ 624 ⌝ }
+    ensures { λ r. ⌜ (generator (now (words .exit)) r ≡ ready (generator (now (words .entry)) at)) × (r < 624) ⌝ }
+{
+    if at == Generator::SIZE {
+        refill_all(words);
+        return 0;
+    }
+    at
+}
+
 fn temper_word(y: u32) -> u32
     ensures { λ r. ⌜ r ≡ temper y ⌝ }
 {
@@ -179,61 +176,9 @@ fn take_at(words: [u32; 624], at: usize) -> Next
     let word = temper_word(words[at]);
     let after = at + 1;
     Next {
-        answer: ACCEPTED,
+        answer: 0,
         word,
         state: Generator { words, at: after },
-    }
-}
-
-// The key word that an output gives.
-fn key_word(w: u32, output: u32) -> u32
-    ensures { λ r. ⌜ r ≡ keyWord w output ⌝ }
-{
-    sums::keep(w, output)
-}
-
-// The key words of the first state words, as many as there are places.
-fn temper_block(w: u32, words: &[u32; 624], out: &mut [u32])
-    requires { ⌜ (w ≤ 32) × (length (now out) ≤ 624) ⌝ }
-    ensures { λ _. ⌜ now (out .exit) ≡ table (keyAt w (now (words .entry))) (length (now (out .entry))) ⌝ }
-{
-    for i in 0..out.len() {
-        out[i] = key_word(w, temper_word(words[i]));
-    }
-}
-
-// A refill, and the key words that follow it.
-fn key_block(w: u32, words: &mut [u32; 624], out: &mut [u32])
-    requires { ⌜ (w ≤ 32) × (length (now out) ≤ 624) ⌝ }
-    ensures { λ _. ⌜ (now (words .exit) ≡ refill (now (words .entry))) × (now (out .exit) ≡ table (keyAt w (now (words .exit))) (length (now (out .entry)))) ⌝ }
-{
-    refill_all(words);
-    temper_block(w, words, out);
-}
-
-// Where the block that begins at a place ends.
-fn block_end(at: usize, n: usize) -> usize
-    requires { ⌜ at < n ⌝ }
-    ensures { λ r. ⌜ r ≡ min (at + 624) n ⌝ }
-{
-    if n - at < Generator::SIZE {
-        n
-    } else {
-        at + Generator::SIZE
-    }
-}
-
-// The whole row from a state that is used up. Blocks spare a copy of the state for each word.
-fn key_row(w: u32, words: &mut [u32; 624], out: &mut [u32])
-    requires { ⌜ w ≤ 32 ⌝ }
-    ensures { λ _. ⌜ now (out .exit) ≡ keyRow w (generator (now (words .entry)) 624) (length (now (out .entry))) ⌝ }
-{
-    let n = out.len();
-    let mut at = 0;
-    while at < n {
-        let end = block_end(at, n);
-        key_block(w, words, &mut out[at..end]);
-        at = end;
     }
 }
 
@@ -241,16 +186,24 @@ fn key_row(w: u32, words: &mut [u32; 624], out: &mut [u32])
 pub fn stretch(w: u32, seed: u32, out: &mut [u32]) -> u32
     ensures { λ r. ⌜ (r ≡ stretchAnswer w (length (now (out .entry)))) × (now (out .exit) ≡ stretched w seed (now (out .entry))) ⌝ }
 {
-    if w < 1 {
-        return WIDTH;
-    }
-    if w > MOST_BITS {
-        return WIDTH;
-    }
-    if out.len() > MOST_WORDS {
-        return LONG;
+    let answer = judge(w, out.len());
+    if answer != 0 {
+        return answer;
     }
     let mut words = fill(seed);
-    key_row(w, &mut words, out);
-    ACCEPTED
+    keys::key_row(w, &mut words, Generator::SIZE, out);
+    0
+}
+
+// The first test that refuses a stretch, else 0.
+fn judge(w: u32, places: usize) -> u32
+    ensures { λ r. ⌜ r ≡ stretchAnswer w places ⌝ }
+{
+    if answers::table::bad_width(w) {
+        return answers::WIDTH;
+    }
+    if answers::table::too_long(answers::MOST_STRETCH, places) {
+        return answers::LONG;
+    }
+    0
 }

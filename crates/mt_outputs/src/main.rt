@@ -1,14 +1,18 @@
-// Prints outputs of the generator, a line for each: the seed, the place from 1, the output.
+// Prints outputs of the generator, and single calls of next on given states, refused ones too.
 // tests/mt_outputs.cpp prints the same lines by std::mt19937.
 use libc::STDOUT_FILENO;
 use mt19937::Generator;
 
+fn print_after_space(n: u64) {
+    io::write_all(STDOUT_FILENO, b" ");
+    io::print_decimal(STDOUT_FILENO, n);
+}
+
+// The seed, the place from 1, the output.
 fn print_line(seed: u32, place: u64, output: u32) {
     io::print_decimal(STDOUT_FILENO, seed as u64);
-    io::write_all(STDOUT_FILENO, b" ");
-    io::print_decimal(STDOUT_FILENO, place);
-    io::write_all(STDOUT_FILENO, b" ");
-    io::print_decimal(STDOUT_FILENO, output as u64);
+    print_after_space(place);
+    print_after_space(output as u64);
     io::write_all(STDOUT_FILENO, b"\n");
 }
 
@@ -26,6 +30,47 @@ fn print_outputs(seed: u32, from: u64, to: u64) {
     }
 }
 
+// All words in one, each at its own turn of the bits.
+fn folded(words: [u32; 624]) -> u32 {
+    let mut fold: u32 = 0;
+    for i in 0..624 {
+        fold = ((fold << 1) | (fold >> 31)) ^ words[i];
+    }
+    fold
+}
+
+// One next: the position before it, the answer, the word, and of the state that it gives the position and the words.
+fn print_next(words: [u32; 624], at: usize) {
+    let before = Generator { words, at };
+    let next = before.next();
+    let after = next.state;
+    let kept = after.words;
+    io::write_all(STDOUT_FILENO, b"next");
+    print_after_space(at as u64);
+    print_after_space(next.answer as u64);
+    print_after_space(next.word as u64);
+    print_after_space(after.at as u64);
+    print_after_space(folded(kept) as u64);
+    io::write_all(STDOUT_FILENO, b"\n");
+}
+
+// The edges of the position, on the words of a new state and on those of its first refill.
+fn print_positions(seed: u32) {
+    let new = Generator::new(seed);
+    let words = new.words;
+    print_next(words, 624);
+    print_next(words, 625);
+    print_next(words, 0xffff_ffff);
+    print_next(words, 0xffff_ffff_ffff_ffff);
+    let next = new.next();
+    let after = next.state;
+    let filled = after.words;
+    print_next(filled, 0);
+    print_next(filled, 623);
+    print_next(filled, 624);
+    print_next(filled, 625);
+}
+
 fn main() {
     print_outputs(5489, 10000, 10000);
     print_outputs(5489, 1, 5);
@@ -33,4 +78,5 @@ fn main() {
     print_outputs(1, 622, 627);
     print_outputs(19650218, 1246, 1251);
     print_outputs(4294967295, 1, 5);
+    print_positions(5489);
 }

@@ -5,21 +5,22 @@ use mathlib.Core.Bool.{Bool, true, _&&_}
 use mathlib.Core.List.{List, [], _∷_, _++_, map}
 use Prim.Native.Nat.{ℕ, _+_, _≤_}
 use native.Mathlib.Nat.{zero-add}
-use native.Mathlib.Decide.{decLe}
 use native.Mathlib.Omega.{arith}
 use lib.ListN.{length, take, replicate, length-append, length-replicate}
 use lib.Seq.{length-take-le}
-use Rattle.sums.specs.Digest.{fits, fullWords, kept, digest}
-use Rattle.digest.specs.Answers.{firstOf, trayTest, wordTest, afterwards}
+use Rattle.counts.specs.Digest.{fits, fullWords, kept, digest}
+use Rattle.answers.specs.Answers.{firstOf, afterwards}
+use Rattle.answers.proofs.Fits.{both, fits-append, fits-parts, fits-zeros}
+use Rattle.answers.proofs.Judged.{width-passes, kept-passes, count-passes, long-passes, key-passes, words-pass}
+use Rattle.sums.specs.Sums.{addSums}
+use Rattle.sums.proofs.Each.{sums-zero, length-full}
 use Rattle.digest.specs.Words.{digestAnswer, digestRow}
-use Rattle.digest.proofs.Judged.{long-passes, key-passes, tray-stops, tray-passes, word-passes}
 use Rattle.stream.specs.declared.Stream.{Stream}
-use Rattle.stream.specs.State.{padded, heldKeys, heldSums, addSums, lastWords, pushed, opened}
+use Rattle.stream.specs.State.{padded, heldKeys, heldSums, lastWords, pushed, opened}
 use Rattle.stream.specs.Calls.{openAnswer, openState, pushAnswer, pushState, readAnswer, reading, readRow}
 use Rattle.stream.specs.Cutting.{Part, messageOf, keyOf, afterParts, partAnswers, FitPart, FitParts, wholeState, Whole, EveryCutting, EmptyPush, EveryState}
-use Rattle.stream.proofs.Judged.{fit, fit-state, settings-pass, state-passes, Takes, taken, Opens, opens, both, accepted-state}
-use Rattle.stream.proofs.Added.{length-sums, sums-zero}
-use Rattle.stream.proofs.Padded.{fits-append, fits-parts, fits-zeros, same-zeros, padded-length, padded-held, padded-unused, padded-fits}
+use Rattle.stream.proofs.Judged.{fit, fit-state, Takes, taken, Opens, opens, new-state}
+use Rattle.stream.proofs.Padded.{same-zeros, zeros-row, padded-length, padded-held, padded-row}
 use Rattle.stream.proofs.Pushes.{Good, pushed-good, pushed-none, pushed-twice}
 
 -- the parts' words, all together, are a fit part
@@ -46,10 +47,11 @@ push-parts : (s : Stream) (ps : List Part) → Good s → FitParts (s .width) ps
 unfolding FitParts messageOf keyOf afterParts partAnswers pushState pushed
 push-parts s [] good h room = (refl, sym (pushed-none s good))
 push-parts s (p ∷ ps) good h room =
+    let fits-both = both (fits (s .width) (p .message)) (fits (s .width) (p .key)) (h .0 .fit) in
     let t : Takes s (p .message) (p .key) =
-    record { state = good .fit; room = omega (arith, length-append (p .message) (messageOf ps)); words = h .0 .words; fit = h .0 .fit } in
+    record { state = good .fit; room = omega (arith, length-append (p .message) (messageOf ps)); words = h .0 .words; message = fits-both .0; key = fits-both .1 } in
     let none = taken s (p .message) (p .key) t in
-    let next : pushState s (p .message) (p .key) ≡ pushed s (p .message) (p .key) = accepted-state (pushAnswer s (p .message) (p .key)) (pushed s (p .message) (p .key)) s none in
+    let next : pushState s (p .message) (p .key) ≡ pushed s (p .message) (p .key) = new-state (pushAnswer s (p .message) (p .key)) (pushed s (p .message) (p .key)) s none in
     let rest = push-parts (pushed s (p .message) (p .key)) ps (pushed-good s good (p .message) (p .key) t) (h .1) (omega (arith, length-append (p .message) (messageOf ps))) in (
       ap₂ (λ (x : ℕ) (xs : List ℕ). x ∷ xs) none (ap (λ (s : Stream). partAnswers s ps) next ∙ rest .0),
       ap (λ (s : Stream). afterParts s ps) next ∙ rest .1 ∙ pushed-twice s good (p .message) (p .key) (messageOf ps) (keyOf ps) t,
@@ -63,13 +65,13 @@ pub empty-push : EmptyPush
 unfolding EmptyPush pushState fits
 empty-push s f keys-eight sums-eight =
     let good : Good s = record { fit = fit s f; keys-eight = keys-eight; sums-eight = sums-eight } in
-    let t : Takes s [] [] = record { state = good .fit; room = omega (arith, good .fit .count); words = refl; fit = refl } in
+    let t : Takes s [] [] = record { state = good .fit; room = omega (arith, good .fit .count); words = refl; message = refl; key = refl } in
     let none = taken s [] [] t in
-    (none, accepted-state (pushAnswer s [] []) (pushed s [] []) s none ∙ pushed-none s good)
+    (none, new-state (pushAnswer s [] []) (pushed s [] []) s none ∙ pushed-none s good)
 
 module _ (w b n : ℕ) (ks : List ℕ) (o : Opens w b n ks) where
   few : n ≤ 8
-  few = o .settings .count-high
+  few = o .settings .words
 
   opened-good : Good (opened w b n ks)
   unfolding opened
@@ -79,10 +81,8 @@ module _ (w b n : ℕ) (ks : List ℕ) (o : Opens w b n ks) where
             record {
               settings = o .settings;
               count = omega arith;
-              keys = padded-fits w ks (o .fit);
-              sums = fits-zeros w 8;
-              unused-keys = padded-unused n ks (o .words) few;
-              unused-sums = fits-parts 0 n (replicate 8 0) (fits-zeros 0 8) .1;
+              keys = padded-row n ks (o .words) few w (o .fit);
+              sums = zeros-row w n 8;
             };
         keys-eight = padded-length n ks (o .words) few;
         sums-eight = refl;
@@ -110,28 +110,27 @@ module _ (w b n : ℕ) (ks : List ℕ) (o : Opens w b n ks) where
       ∙ ap₂ {C = Stream} (λ (t : ℕ) (sums : List ℕ). record { width = w; kept = b; n = n; taken = t; keys = padded (lastWords n (ks ++ more)); sums = padded sums })
       (zero-add (length ms)) (sums-zero w n ms (ks ++ more))
 
-  module _ (ms ks′ : List ℕ) (long : length ms ≤ 65536) (words : length ks′ ≡ length ms + n) (f : (fits w ms && fits w ks′) ≡ true) (s : Stream) (good : Good s) (e : s ≡ wholeState w b n ms ks′) where
-    full-length : length (fullWords w n ms ks′) ≡ n
-    full-length = ap length (sym (sums-zero w n ms ks′)) ∙ length-sums w ms ks′ (replicate n 0) ∙ length-replicate n 0
-
+  module _ (ms ks′ : List ℕ) (long : length ms ≤ 65536) (words : length ks′ ≡ length ms + n) (message : fits w ms ≡ true) (key : fits w ks′ ≡ true) (s : Stream) (good : Good s) (e : s ≡ wholeState w b n ms ks′) where
     whole-words : reading s ≡ digest w b n ms ks′
     unfolding reading digest wholeState
-    whole-words = ap reading e ∙ ap (map (kept b)) (padded-held n (fullWords w n ms ks′) full-length few)
+    whole-words = ap reading e ∙ ap (map (kept b)) (padded-held n (fullWords w n ms ks′) (length-full w n ms ks′) few)
 
+    -- of both calls only Tray is left to hold
     whole-answer : (out : List ℕ) → readAnswer s out ≡ digestAnswer w b n ms ks′ out
-    unfolding readAnswer digestAnswer wholeState
+    unfolding readAnswer digestAnswer wholeState firstOf
     whole-answer out =
-        state-passes s (trayTest (s .n) (length out) ∷ []) 0 (fit-state s (good .fit))
-        ∙ ap (λ (m : ℕ). firstOf (trayTest m (length out) ∷ []) 0) (ap (λ (s : Stream). s .n) e)
-        ∙ tray (decLe n (length out))
-        ∙ sym
-        (settings-pass w b n _ 0 (o .settings)
-        ∙ long-passes _ 0 (length ms) long
-        ∙ key-passes (trayTest n (length out) ∷ wordTest w ms ks′ ∷ []) 0 (length ms) n (length ks′) words)
-      where
-        tray : Dec (n ≤ length out) → firstOf (trayTest n (length out) ∷ []) 0 ≡ firstOf (trayTest n (length out) ∷ wordTest w ms ks′ ∷ []) 0
-        tray (yes le) = tray-passes [] 0 n (length out) le ∙ sym (tray-passes (wordTest w ms ks′ ∷ []) 0 n (length out) le ∙ word-passes [] 0 w ms ks′ f)
-        tray (no gt) = tray-stops [] 0 n (length out) (omega arith) ∙ sym (tray-stops (wordTest w ms ks′ ∷ []) 0 n (length out) (omega arith))
+        let r = o .settings in
+        let count : s .n ≡ n = ap (λ (s : Stream). s .n) e in
+        rw (
+          fit-state s (good .fit),
+          count,
+          width-passes w (r .some-width) (r .width),
+          kept-passes w b (r .some-kept) (r .kept),
+          count-passes n (r .some-words) (r .words),
+          long-passes 65536 (length ms) long,
+          key-passes (length ms + n) (length ks′) words,
+          words-pass w ms ks′ message key,
+        )
 
     whole-row : (out : List ℕ) → readRow s out ≡ digestRow w b n ms ks′ out
     unfolding readRow digestRow
@@ -148,21 +147,20 @@ opened-whole w b n ks ps o h long =
     let all = joined-fit w ps h in
     let both-fit = both (fits w ms) (fits w more) (all .fit) in
     let pushes = push-parts s ps good h room in
-    let t : Takes s ms more = record { state = good .fit; room = room; words = all .words; fit = all .fit } in
+    let t : Takes s ms more = record { state = good .fit; room = room; words = all .words; message = both-fit .0; key = both-fit .1 } in
     let words : length (ks ++ more) ≡ length ms + n = omega (arith, length-append ks more, o .words, all .words) in
-    let fit : (fits w ms && fits w (ks ++ more)) ≡ true =
-    ap₂ (λ (x y : Bool). x && y) (both-fit .0) (fits-append w ks more ∙ ap₂ (λ (x y : Bool). x && y) (o .fit) (both-fit .1)) in
+    let key : fits w (ks ++ more) ≡ true = fits-append w ks more ∙ ap₂ (λ (x y : Bool). x && y) (o .fit) (both-fit .1) in
     let end : Good (afterParts s ps) = subst Good (sym (pushes .1)) (pushed-good s good ms more t) in
     let state = pushes .1 ∙ pushed-opened w b n ks o ms more in
     record {
       answers = pushes .0;
       state = state;
-      words = whole-words w b n ks o ms (ks ++ more) long words fit (afterParts s ps) end state;
-      answer = whole-answer w b n ks o ms (ks ++ more) long words fit (afterParts s ps) end state;
-      row = whole-row w b n ks o ms (ks ++ more) long words fit (afterParts s ps) end state;
+      words = whole-words w b n ks o ms (ks ++ more) long words (both-fit .0) key (afterParts s ps) end state;
+      answer = whole-answer w b n ks o ms (ks ++ more) long words (both-fit .0) key (afterParts s ps) end state;
+      row = whole-row w b n ks o ms (ks ++ more) long words (both-fit .0) key (afterParts s ps) end state;
     }
 
 pub every-cutting : EveryCutting
 unfolding EveryCutting openState
 every-cutting w b n ks ps a h long =
-    subst (λ (s : Stream). Whole w b n s ps (messageOf ps) (ks ++ keyOf ps)) (sym (accepted-state (openAnswer w b n ks) _ _ a)) (opened-whole w b n ks ps (opens w b n ks a) h long)
+    subst (λ (s : Stream). Whole w b n s ps (messageOf ps) (ks ++ keyOf ps)) (sym (new-state (openAnswer w b n ks) _ _ a)) (opened-whole w b n ks ps (opens w b n ks a) h long)

@@ -1,30 +1,38 @@
--- The held key words and the pushed ones: how they are joined, what a sum over the joint row gives, and the last n of them.
+-- The held key words and the pushed ones: how they are joined, what the sums over the joint row give, and the last n of them.
 use mathlib.Core.Path.{_≡_, refl, sym, ap, ap₂, _∙_}
-use mathlib.Core.List.{List, [], _++_, append-assoc, append-nil}
-use Prim.Native.Nat.{ℕ, _+_, _-_, _%_, _^_, min, _≤_, _<_}
+use mathlib.Core.Bool.{cond}
+use mathlib.Core.List.{List, [], _∷_, _++_, append-assoc, append-nil}
+use Prim.Native.Nat.{ℕ, _+_, _-_, _%_, _^_, min, _≤_}
 use native.Mathlib.Decide.{decLe}
 use native.Mathlib.Omega.{arith}
-use lib.ListN.{length, getD, take, drop, length-append, length-drop, drop-of-length-le}
-use lib.Seq.{take-at, drop-at, take-all, drop-drop, drop-append-le, drop-append-add, length-take-le, getD-take}
-use Rattle.sums.specs.Digest.{wholeSum}
-use Rattle.stream.specs.State.{addSums, lastWords}
-use Rattle.stream.proofs.Filled.{part-to-end}
-use Rattle.stream.proofs.Added.{sum-at, sum-joined}
+use lib.Dec.{leb}
+use lib.ListN.{length, take, drop, length-append, length-take, length-drop, take-append-drop, drop-of-length-le}
+use lib.Seq.{take-at, drop-at, take-all, drop-drop, drop-append-le, drop-append-add, length-take-le}
+use Rattle.rows.specs.Written.{over}
+use Rattle.rows.proofs.Written.{over-fits}
+use Rattle.rows.proofs.Parts.{part-to-end}
+use Rattle.counts.specs.Digest.{wholeSum}
+use Rattle.sums.specs.Sums.{addSums, leafSums}
+use Rattle.sums.proofs.Each.{sums-more, leaf-append}
+use Rattle.stream.specs.State.{lastWords}
 
 -- a row whose first n places and then the next ones are written
 pub two-copies : (n k : ℕ) (held ks zeros one two : List ℕ)
     → length held ≡ n
     → n + k ≡ length zeros
-    → one ≡ held ++ drop (length held) zeros
-    → two ≡ ks ++ drop (length ks) (take k (drop n one))
+    → length ks ≤ k
+    → one ≡ over held zeros
+    → two ≡ over ks (take k (drop n one))
     → take n one ++ (two ++ drop k (drop n one)) ≡ (held ++ ks) ++ drop (n + length ks) zeros
-two-copies n k held ks zeros one two len all e₁ e₂ =
-    let front : take n one ≡ held = ap (take n) e₁ ∙ take-at held (drop (length held) zeros) n len in
-    let rest : drop n one ≡ drop n zeros = ap (drop n) e₁ ∙ drop-at held (drop (length held) zeros) n len ∙ ap (λ (m : ℕ). drop m zeros) len in
-    let long : length (drop n zeros) ≤ k = omega (arith, length-drop n zeros) in
-    let second : two ≡ ks ++ drop (n + length ks) zeros = e₂ ∙ ap (λ (l : List ℕ). ks ++ drop (length ks) l) (ap (take k) rest ∙ take-all k (drop n zeros) long) ∙ ap (λ (l : List ℕ). ks ++ l) (drop-drop (length ks) n zeros) in
-    let end : drop k (drop n one) ≡ [] = ap (drop k) rest ∙ drop-of-length-le (drop n zeros) long in
-    ap₂ (λ (x y : List ℕ). x ++ y) front (ap₂ (λ (x y : List ℕ). x ++ y) second end ∙ append-nil (ks ++ drop (n + length ks) zeros))
+two-copies n k held ks zeros one two len all room e₁ e₂ =
+    let rest : List ℕ = drop n zeros in
+    let long : length rest ≡ k = length-drop n zeros ∙ omega arith in
+    let first : one ≡ held ++ rest = e₁ ∙ over-fits held zeros (omega arith) ∙ ap (λ (m : ℕ). held ++ drop m zeros) len in
+    let after : drop n one ≡ rest = ap (drop n) first ∙ drop-at held rest n len in
+    let place : take k (drop n one) ≡ rest = ap (take k) after ∙ take-all k rest (omega arith) in
+    let second : two ≡ ks ++ drop (n + length ks) zeros = e₂ ∙ ap (over ks) place ∙ over-fits ks rest (omega arith) ∙ ap (λ (l : List ℕ). ks ++ l) (drop-drop (length ks) n zeros) in
+    let end : drop k (drop n one) ≡ [] = ap (drop k) after ∙ drop-of-length-le rest {i = k} (omega arith) in
+    ap₂ (λ (x y : List ℕ). x ++ y) (ap (take n) first ∙ take-at held rest n len) (ap₂ (λ (x y : List ℕ). x ++ y) second end ∙ append-nil (ks ++ drop (n + length ks) zeros))
     ∙ sym (append-assoc held ks (drop (n + length ks) zeros))
 
 -- the last n of the held and then the pushed words start after as many as were pushed
@@ -54,35 +62,62 @@ module _ (n : ℕ) (held ks : List ℕ) (len : length held ≡ n) where
       ∙ take-at (drop (length ks) (held ++ ks)) after n (ap length (sym last-after) ∙ length-last)
       ∙ sym last-after
 
--- the joint row starts with the held words
-pub joint-held : (n : ℕ) (held rest after joint : List ℕ) → length held ≡ n → joint ≡ (held ++ rest) ++ after → take n joint ≡ held
-joint-held n held rest after joint len e = ap (take n) (e ∙ append-assoc held rest after) ∙ take-at held (rest ++ after) n len
+-- no message reads no key
+sums-still : (w : ℕ) (ks ks′ sums : List ℕ) → addSums w [] ks sums ≡ addSums w [] ks′ sums
+unfolding addSums wholeSum
+sums-still w ks ks′ [] = refl
+sums-still w ks ks′ (s ∷ sums) = ap (λ (l : List ℕ). (s + 0) % 2 ^ w ∷ l) (sums-still w (drop 1 ks) (drop 1 ks′) sums)
 
--- the sum that the loop writes at place i, in the parts that the code lends
-module _ (w n i first at : ℕ) (held ms ks joint after sums : List ℕ)
-    (len : length held ≡ n) (same : length ms ≡ length ks) (lt : i < n) (most : first ≡ min n (length ks)) (from : at ≡ min i (length ks))
-    (e : joint ≡ (held ++ take first ks) ++ after) (long : length joint ≡ 16) (room : n ≤ length sums) where
-  drop-lesser : drop at ks ≡ drop i ks
-  drop-lesser = go (decLe (length ks) i)
+-- keys under which the code's sums agree
+leaf-same : (w n : ℕ) (ms ks ks′ sums : List ℕ) → addSums w ms ks (take n sums) ≡ addSums w ms ks′ (take n sums) → leafSums w n ms ks sums ≡ leafSums w n ms ks′ sums
+unfolding leafSums
+leaf-same w n ms ks ks′ sums e = ap (λ (l : List ℕ). cond (leb w 32) (l ++ drop n sums) sums) e
+
+-- the first words of a message over the held key words and as many pushed ones, joined, and the rest over the pushed key
+module _ (w n first : ℕ) (held ms ks : List ℕ) (len : length held ≡ n) (same : length ms ≡ length ks) (most : first ≡ min n (length ks)) where
+  joined : List ℕ
+  joined = held ++ take first ks
+
+  taken : length (take first ms) ≡ first
+  taken = length-take-le first ms (omega arith)
+
+  -- the first words reach no further than the joined ones
+  joined-reads : (more sums : List ℕ) → leafSums w n (take first ms) (joined ++ more) sums ≡ leafSums w n (take first ms) joined sums
+  unfolding joined
+  joined-reads more sums =
+      leaf-same w n (take first ms) (joined ++ more) joined sums
+      (sums-more w (take first ms) joined more (take n sums)
+      (omega (arith, taken, length-append held (take first ks), length-take-le first ks (omega arith), length-take n sums)))
+
+  begun : (joint after sums : List ℕ) → joint ≡ (held ++ take first ks) ++ after → leafSums w n (take first ms) joint sums ≡ leafSums w n (take first ms) (held ++ ks) sums
+  unfolding joined
+  begun joint after sums e =
+      let over-key : List ℕ → List ℕ = λ (l : List ℕ). leafSums w n (take first ms) l sums in
+      ap over-key e
+      ∙ joined-reads after sums
+      ∙ sym (joined-reads (drop first ks) sums)
+      ∙ ap over-key (append-assoc held (take first ks) (drop first ks) ∙ ap (λ (l : List ℕ). held ++ l) (take-append-drop first ks))
+
+  -- the key after the first words is the pushed one, or there are no later words
+  then-pushed : (sums : List ℕ) → leafSums w n (drop first ms) ks sums ≡ leafSums w n (drop first ms) (drop (length (take first ms)) (held ++ ks)) sums
+  then-pushed sums = go (decLe (length ms) n)
     where
-      go : Dec (length ks ≤ i) → drop at ks ≡ drop i ks
-      go (yes le) = drop-of-length-le ks {i = at} (omega arith) ∙ sym (drop-of-length-le ks le)
-      go (no gt) = let same-place : at ≡ i = omega arith in ap (λ (m : ℕ). drop m ks) same-place
+      go : Dec (length ms ≤ n) → leafSums w n (drop first ms) ks sums ≡ leafSums w n (drop first ms) (drop (length (take first ms)) (held ++ ks)) sums
+      go (yes few) = rw (drop-of-length-le ms {i = first} (omega arith)) (leaf-same w n [] ks _ sums (sums-still w ks _ (take n sums)))
+      go (no many) =
+          let all : length (take first ms) ≡ n = omega (arith, taken) in
+          ap (λ (l : List ℕ). leafSums w n (drop first ms) l sums) (sym (ap (λ (m : ℕ). drop m (held ++ ks)) all ∙ drop-at held ks n len))
 
-  parts-sum : wholeSum w (take first ms) (take (16 - i) (drop i joint)) + wholeSum w (take (length ms - first) (drop first ms)) (take (length ks - at) (drop at ks))
-      ≡ wholeSum w ms (drop i (held ++ ks))
-  parts-sum =
-      ap₂ (λ (x y : ℕ). x + y)
-      (ap (wholeSum w (take first ms)) (part-to-end 16 i joint long ∙ ap (drop i) e))
-      (ap₂ (wholeSum w) (part-to-end (length ms) first ms refl) (part-to-end (length ks) at ks refl ∙ drop-lesser))
-      ∙ ap (λ (m : ℕ). wholeSum w (take m ms) (drop i ((held ++ take m ks) ++ after)) + wholeSum w (drop m ms) (drop i ks)) most
-      ∙ sum-joined w n i held ms ks after len same lt
-
-  pub joint-word : (v : ℕ)
-      → v ≡ (getD sums i 0 + (wholeSum w (take first ms) (take (16 - i) (drop i joint)) + wholeSum w (take (length ms - first) (drop first ms)) (take (length ks - at) (drop at ks)))) % 2 ^ w
-      → v ≡ getD (addSums w ms (take n joint ++ ks) (take n sums)) i 0
-  joint-word v h =
-      h
-      ∙ ap₂ (λ (x y : ℕ). (x + y) % 2 ^ w) (sym (getD-take n sums i 0 lt)) parts-sum
-      ∙ sym (sum-at w i ms (held ++ ks) (take n sums) (omega (arith, length-take-le n sums room)))
-      ∙ ap (λ (l : List ℕ). getD (addSums w ms (l ++ ks) (take n sums)) i 0) (sym (joint-held n held (take first ks) after joint len e))
+  -- in the parts that the code lends: what it makes of the sums over the joint row, and then of those over the pushed key
+  pub joint-sums : (joint after sums one two : List ℕ)
+      → w ≤ 32
+      → joint ≡ (held ++ take first ks) ++ after
+      → one ≡ leafSums w n (take first ms) joint sums
+      → two ≡ leafSums w n (take (length ms - first) (drop first ms)) ks one
+      → two ≡ leafSums w n ms (held ++ ks) sums
+  joint-sums joint after sums one two le e e₁ e₂ =
+      e₂
+      ∙ ap₂ (λ (rest new : List ℕ). leafSums w n rest ks new) (part-to-end (length ms) first ms refl) (e₁ ∙ begun joint after sums e)
+      ∙ then-pushed (leafSums w n (take first ms) (held ++ ks) sums)
+      ∙ leaf-append w n le (take first ms) (drop first ms) (held ++ ks) sums
+      ∙ ap (λ (l : List ℕ). leafSums w n l (held ++ ks) sums) (take-append-drop first ms)

@@ -1,7 +1,5 @@
-pub mod Filled
 pub mod Judged
-pub mod Added
-pub mod Joined
 pub mod Padded
+pub mod Joined
 pub mod Pushes
 pub mod Cutting

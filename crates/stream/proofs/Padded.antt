@@ -1,34 +1,25 @@
 -- Rows of eight places whose unused places are zero.
 use mathlib.Core.Path.{_≡_, refl, sym, ap, ap₂, _∙_}
-use mathlib.Core.Bool.{Bool, true, _&&_, and-assoc}
+use mathlib.Core.Bool.{true}
 use mathlib.Core.List.{List, [], _∷_, _++_}
-use Prim.Native.Nat.{ℕ, zero, suc, _+_, _-_, _^_, _≤_}
+use Prim.Native.Nat.{ℕ, _+_, _-_, _≤_}
 use native.Mathlib.Nat.{suc-ne-zero}
 use native.Mathlib.Omega.{arith}
-use borrow.Author.Tests.{ltb-true, lt-ltb}
+use borrow.Author.Tests.{ltb-true}
 use lib.Dec.{ltb}
-use lib.Pow.{pow-pos}
-use lib.ListN.{length, take, drop, replicate, length-append, length-drop, take-append-drop}
+use lib.ListN.{length, take, drop, replicate, length-append, length-drop}
 use lib.Seq.{take-at, drop-at, length-take-le}
-use Rattle.sums.specs.Digest.{fits}
+use Rattle.counts.specs.Digest.{fits}
+use Rattle.answers.specs.Table.{fitRow}
+use Rattle.answers.proofs.Fits.{both, fits-parts, fits-zeros}
+use Rattle.sums.specs.Sums.{addSums, leafSums}
+use Rattle.sums.proofs.Each.{length-sums, leaf-sums}
 use Rattle.stream.specs.declared.Stream.{Stream}
-use Rattle.stream.specs.State.{padded, heldKeys, heldSums, addSums, lastWords, pushed, opened}
-use Rattle.stream.proofs.Added.{length-sums}
-use Rattle.stream.proofs.Judged.{both}
+use Rattle.stream.specs.State.{padded, heldKeys, heldSums, lastWords, pushed, opened}
 
-pub fits-append : (w : ℕ) (a b : List ℕ) → fits w (a ++ b) ≡ (fits w a && fits w b)
-unfolding fits
-fits-append w [] b = refl
-fits-append w (x ∷ a) b = ap (λ (t : Bool). ltb x (2 ^ w) && t) (fits-append w a b) ∙ sym (and-assoc (ltb x (2 ^ w)) (fits w a) (fits w b))
-
--- parts of a row that fits
-pub fits-parts : (w n : ℕ) (xs : List ℕ) → fits w xs ≡ true → (fits w (take n xs) ≡ true) × (fits w (drop n xs) ≡ true)
-fits-parts w n xs h = both (fits w (take n xs)) (fits w (drop n xs)) (sym (fits-append w (take n xs) (drop n xs)) ∙ ap (fits w) (take-append-drop n xs) ∙ h)
-
-pub fits-zeros : (w n : ℕ) → fits w (replicate n 0) ≡ true
-unfolding fits
-fits-zeros w zero = refl
-fits-zeros w (suc n) = rw (lt-ltb 0 (2 ^ w) (pow-pos w)) (fits-zeros w n)
+-- the words that a row of eight places holds
+pub held-length : (n : ℕ) (row : List ℕ) → n ≤ 8 → length row ≡ 8 → length (take n row) ≡ n
+held-length n row few eight = length-take-le n row (omega arith)
 
 -- two rows of zeros of one length
 pub same-zeros : (xs ys : List ℕ) → length xs ≡ length ys → fits 0 xs ≡ true → fits 0 ys ≡ true → xs ≡ ys
@@ -42,37 +33,44 @@ same-zeros (x ∷ xs) (y ∷ ys) e hx hy =
     let same : x ≡ y = omega (arith, ltb-true x 1 (p .0), ltb-true y 1 (q .0)) in
     ap₂ (λ (z : ℕ) (zs : List ℕ). z ∷ zs) same (same-zeros xs ys (omega arith) (p .1) (q .1))
 
+-- the words and the unused places of a row that fits
+pub row-parts : (w n : ℕ) (row : List ℕ) → fitRow w n row ≡ true → (fits w (take n row) ≡ true) × (fits 0 (drop n row) ≡ true)
+unfolding fitRow
+row-parts w n row h = both (fits w (take n row)) (fits 0 (drop n row)) h
+
+pub zeros-row : (w n m : ℕ) → fitRow w n (replicate m 0) ≡ true
+unfolding fitRow
+zeros-row w n m = rw (fits-parts w n (replicate m 0) (fits-zeros w m) .0, fits-parts 0 n (replicate m 0) (fits-zeros 0 m) .1)
+
 module _ (n : ℕ) (words : List ℕ) (len : length words ≡ n) (few : n ≤ 8) where
-  unused-places : length (drop (length words) (replicate {A = ℕ} 8 0)) ≡ 8 - length words
+  unused : List ℕ
+  unused = drop (length words) (replicate 8 0)
+
+  unused-zero : fits 0 unused ≡ true
+  unfolding unused
+  unused-zero = fits-parts 0 (length words) (replicate 8 0) (fits-zeros 0 8) .1
+
+  unused-places : length unused ≡ 8 - length words
+  unfolding unused
   unused-places = length-drop (length words) (replicate {A = ℕ} 8 0)
 
   pub padded-length : length (padded words) ≡ 8
-  unfolding padded
-  padded-length = length-append words (drop (length words) (replicate 8 0)) ∙ omega (arith, unused-places)
+  unfolding padded unused
+  padded-length = length-append words unused ∙ omega (arith, unused-places)
 
   pub padded-held : take n (padded words) ≡ words
-  unfolding padded
-  padded-held = take-at words (drop (length words) (replicate 8 0)) n len
+  unfolding padded unused
+  padded-held = take-at words unused n len
 
-  pub padded-unused : fits 0 (drop n (padded words)) ≡ true
-  unfolding padded
-  padded-unused = ap (fits 0) (drop-at words (drop (length words) (replicate 8 0)) n len) ∙ fits-parts 0 (length words) (replicate 8 0) (fits-zeros 0 8) .1
+  pub padded-row : (w : ℕ) → fits w words ≡ true → fitRow w n (padded words) ≡ true
+  unfolding fitRow padded unused
+  padded-row w h = rw (take-at words unused n len, drop-at words unused n len, h) unused-zero
 
   -- the row that keeps the unused places of a row whose unused places are zero
   pub padded-over : (row : List ℕ) → length row ≡ 8 → fits 0 (drop n row) ≡ true → words ++ drop n row ≡ padded words
-  unfolding padded
-  padded-over row eight unused =
-      ap (λ (l : List ℕ). words ++ l)
-      (same-zeros (drop n row) (drop (length words) (replicate 8 0))
-      (omega (arith, length-drop n row, unused-places))
-      unused
-      (fits-parts 0 (length words) (replicate 8 0) (fits-zeros 0 8) .1))
-
-pub padded-fits : (w : ℕ) (words : List ℕ) → fits w words ≡ true → fits w (padded words) ≡ true
-unfolding padded
-padded-fits w words h =
-    fits-append w words (drop (length words) (replicate 8 0))
-    ∙ ap₂ (λ (a b : Bool). a && b) h (fits-parts w (length words) (replicate 8 0) (fits-zeros w 8) .1)
+  unfolding padded unused
+  padded-over row eight zero =
+      ap (λ (l : List ℕ). words ++ l) (same-zeros (drop n row) unused (omega (arith, length-drop n row, unused-places)) zero unused-zero)
 
 -- the states as the code makes them
 pub opened-from : (w b n : ℕ) (ks keys : List ℕ) → keys ≡ padded ks
@@ -81,16 +79,19 @@ unfolding opened
 opened-from w b n ks keys e = ap {B = Stream} (λ (l : List ℕ). record { width = w; kept = b; n = n; taken = 0; keys = l; sums = replicate 8 0 }) e
 
 pub pushed-from : (s : Stream) (ms ks keys sums : List ℕ)
+    → s .width ≤ 32
     → s .n ≤ 8
     → length (s .sums) ≡ 8
-    → fits 0 (drop (s .n) (s .sums)) ≡ true
+    → fitRow (s .width) (s .n) (s .sums) ≡ true
     → keys ≡ padded (lastWords (s .n) (heldKeys s ++ ks))
-    → sums ≡ addSums (s .width) ms (heldKeys s ++ ks) (heldSums s) ++ drop (s .n) (s .sums)
+    → sums ≡ leafSums (s .width) (s .n) ms (heldKeys s ++ ks) (s .sums)
     → _≡_ {A = Stream} (record { width = s .width; kept = s .kept; n = s .n; taken = s .taken + length ms; keys = keys; sums = sums }) (pushed s ms ks)
 unfolding pushed
-pushed-from s ms ks keys sums few eight unused ek es =
+pushed-from s ms ks keys sums le few eight row ek es =
     let added = addSums (s .width) ms (heldKeys s ++ ks) (heldSums s) in
-    let count : length added ≡ s .n = length-sums (s .width) ms (heldKeys s ++ ks) (heldSums s) ∙ length-take-le (s .n) (s .sums) (omega arith) in
+    let count : length added ≡ s .n = length-sums (s .width) ms (heldKeys s ++ ks) (heldSums s) ∙ held-length (s .n) (s .sums) few eight in
     ap₂ {C = Stream} (λ (x y : List ℕ). record { width = s .width; kept = s .kept; n = s .n; taken = s .taken + length ms; keys = x; sums = y })
     ek
-    (es ∙ padded-over (s .n) added count few (s .sums) eight unused)
+    (es
+    ∙ leaf-sums (s .width) (s .n) le ms (heldKeys s ++ ks) (s .sums)
+    ∙ padded-over (s .n) added count few (s .sums) eight (row-parts (s .width) (s .n) (s .sums) row .1))

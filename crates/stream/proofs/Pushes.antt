@@ -9,14 +9,16 @@ use borrow.Author.Tests.{ltb-true, lt-ltb}
 use lib.Dec.{ltb}
 use lib.Pow.{pow-pos}
 use lib.ListN.{length, drop, length-append, length-drop, take-append-drop}
-use lib.Seq.{drop-drop, drop-append-le, length-take-le}
-use Rattle.sums.specs.Digest.{fits, wholeSum}
+use lib.Seq.{drop-drop, drop-append-le}
+use Rattle.counts.specs.Digest.{fits, wholeSum}
+use Rattle.answers.proofs.Fits.{both, fits-append, fits-parts}
+use Rattle.sums.specs.Sums.{addSums}
+use Rattle.sums.proofs.Each.{length-sums, sums-more, sums-append}
 use Rattle.stream.specs.declared.Stream.{Stream}
-use Rattle.stream.specs.State.{padded, heldKeys, heldSums, addSums, lastWords, pushed}
-use Rattle.stream.proofs.Judged.{Fit, Takes, both}
-use Rattle.stream.proofs.Added.{length-sums, sums-more, sums-append}
+use Rattle.stream.specs.State.{padded, heldKeys, heldSums, lastWords, pushed}
+use Rattle.stream.proofs.Judged.{Fit, Takes}
 use Rattle.stream.proofs.Joined.{last-after, length-last}
-use Rattle.stream.proofs.Padded.{fits-append, fits-parts, padded-length, padded-held, padded-unused, padded-over, padded-fits}
+use Rattle.stream.proofs.Padded.{held-length, row-parts, padded-length, padded-held, padded-row, padded-over}
 
 -- a fit state with its rows of eight places
 pub record Good (s : Stream) : Type 0 where
@@ -24,6 +26,7 @@ pub record Good (s : Stream) : Type 0 where
   pub keys-eight : length (s .keys) ≡ 8
   pub sums-eight : length (s .sums) ≡ 8
 
+-- sums that were added to fit
 sums-fit : (w : ℕ) (ms ks sums : List ℕ) → fits w (addSums w ms ks sums) ≡ true
 unfolding fits addSums
 sums-fit w ms ks [] = refl
@@ -47,13 +50,13 @@ same-state s e f g = cc
 
 module _ (s : Stream) (good : Good s) where
   few : s .n ≤ 8
-  few = good .fit .settings .count-high
+  few = good .fit .settings .words
 
-  held-length : length (heldKeys s) ≡ s .n
-  held-length = length-take-le (s .n) (s .keys) (omega (arith, few, good .keys-eight))
+  keys-length : length (heldKeys s) ≡ s .n
+  keys-length = held-length (s .n) (s .keys) few (good .keys-eight)
 
   sums-length : length (heldSums s) ≡ s .n
-  sums-length = length-take-le (s .n) (s .sums) (omega (arith, few, good .sums-eight))
+  sums-length = held-length (s .n) (s .sums) few (good .sums-eight)
 
   added-length : (ms ks : List ℕ) → length (addSums (s .width) ms (heldKeys s ++ ks) (heldSums s)) ≡ s .n
   added-length ms ks = length-sums (s .width) ms (heldKeys s ++ ks) (heldSums s) ∙ sums-length
@@ -62,8 +65,8 @@ module _ (s : Stream) (good : Good s) where
   pub pushed-keys : (ms ks : List ℕ) → heldKeys (pushed s ms ks) ≡ drop (length ks) (heldKeys s ++ ks)
   unfolding pushed
   pushed-keys ms ks =
-      padded-held (s .n) (lastWords (s .n) (heldKeys s ++ ks)) (length-last (s .n) (heldKeys s) ks held-length) few
-      ∙ last-after (s .n) (heldKeys s) ks held-length
+      padded-held (s .n) (lastWords (s .n) (heldKeys s ++ ks)) (length-last (s .n) (heldKeys s) ks keys-length) few
+      ∙ last-after (s .n) (heldKeys s) ks keys-length
 
   pub pushed-sums : (ms ks : List ℕ) → heldSums (pushed s ms ks) ≡ addSums (s .width) ms (heldKeys s ++ ks) (heldSums s)
   unfolding pushed
@@ -74,20 +77,17 @@ module _ (s : Stream) (good : Good s) where
   pushed-good ms ks t =
       let last = lastWords (s .n) (heldKeys s ++ ks) in
       let added = addSums (s .width) ms (heldKeys s ++ ks) (heldSums s) in
-      let last-length = length-last (s .n) (heldKeys s) ks held-length in
-      let held-fits = fits-parts (s .width) (s .n) (s .keys) (good .fit .keys) .0 in
-      let ks-fit = both (fits (s .width) ms) (fits (s .width) ks) (t .fit) .1 in
-      let all-fit = fits-append (s .width) (heldKeys s) ks ∙ ap₂ (λ (x y : Bool). x && y) held-fits ks-fit in
-      let last-fits = ap (fits (s .width)) (last-after (s .n) (heldKeys s) ks held-length) ∙ fits-parts (s .width) (length ks) (heldKeys s ++ ks) all-fit .1 in
+      let last-length = length-last (s .n) (heldKeys s) ks keys-length in
+      let held-fits = row-parts (s .width) (s .n) (s .keys) (good .fit .keys) .0 in
+      let all-fit = fits-append (s .width) (heldKeys s) ks ∙ ap₂ (λ (x y : Bool). x && y) held-fits (t .key) in
+      let last-fits = ap (fits (s .width)) (last-after (s .n) (heldKeys s) ks keys-length) ∙ fits-parts (s .width) (length ks) (heldKeys s ++ ks) all-fit .1 in
       record {
         fit =
             record {
               settings = good .fit .settings;
               count = t .room;
-              keys = padded-fits (s .width) last last-fits;
-              sums = padded-fits (s .width) added (sums-fit (s .width) ms (heldKeys s ++ ks) (heldSums s));
-              unused-keys = padded-unused (s .n) last last-length few;
-              unused-sums = padded-unused (s .n) added (added-length ms ks) few;
+              keys = padded-row (s .n) last last-length few (s .width) last-fits;
+              sums = padded-row (s .n) added (added-length ms ks) few (s .width) (sums-fit (s .width) ms (heldKeys s ++ ks) (heldSums s));
             };
         keys-eight = padded-length (s .n) last last-length few;
         sums-eight = padded-length (s .n) added (added-length ms ks) few;
@@ -97,11 +97,13 @@ module _ (s : Stream) (good : Good s) where
   pub pushed-none : pushed s [] [] ≡ s
   unfolding pushed
   pushed-none =
-      let keep-keys = padded-over (s .n) (heldKeys s) held-length few (s .keys) (good .keys-eight) (good .fit .unused-keys) in
-      let keep-sums = padded-over (s .n) (heldSums s) sums-length few (s .sums) (good .sums-eight) (good .fit .unused-sums) in
+      let keys-row = row-parts (s .width) (s .n) (s .keys) (good .fit .keys) in
+      let sums-row = row-parts (s .width) (s .n) (s .sums) (good .fit .sums) in
+      let keep-keys = padded-over (s .n) (heldKeys s) keys-length few (s .keys) (good .keys-eight) (keys-row .1) in
+      let keep-sums = padded-over (s .n) (heldSums s) sums-length few (s .sums) (good .sums-eight) (sums-row .1) in
       same-state s (add-zero (s .taken))
-      (ap padded (last-after (s .n) (heldKeys s) [] held-length ∙ append-nil (heldKeys s)) ∙ sym keep-keys ∙ take-append-drop (s .n) (s .keys))
-      (ap padded (sums-none (s .width) (heldKeys s ++ []) (heldSums s) (fits-parts (s .width) (s .n) (s .sums) (good .fit .sums) .0)) ∙ sym keep-sums ∙ take-append-drop (s .n) (s .sums))
+      (ap padded (last-after (s .n) (heldKeys s) [] keys-length ∙ append-nil (heldKeys s)) ∙ sym keep-keys ∙ take-append-drop (s .n) (s .keys))
+      (ap padded (sums-none (s .width) (heldKeys s ++ []) (heldSums s) (sums-row .0)) ∙ sym keep-sums ∙ take-append-drop (s .n) (s .sums))
 
   -- a part in two
   module _ (a ka b kb : List ℕ) (t : Takes s a ka) where
@@ -113,19 +115,19 @@ module _ (s : Stream) (good : Good s) where
 
     two-keys : lastWords (s .n) (heldKeys (pushed s a ka) ++ kb) ≡ lastWords (s .n) (heldKeys s ++ (ka ++ kb))
     two-keys =
-        let len : length (heldKeys (pushed s a ka)) ≡ s .n = ap length (pushed-keys a ka) ∙ length-drop (length ka) (heldKeys s ++ ka) ∙ omega (arith, length-append (heldKeys s) ka, held-length) in
+        let len : length (heldKeys (pushed s a ka)) ≡ s .n = ap length (pushed-keys a ka) ∙ length-drop (length ka) (heldKeys s ++ ka) ∙ omega (arith, length-append (heldKeys s) ka, keys-length) in
         last-after (s .n) (heldKeys (pushed s a ka)) kb len
         ∙ ap (drop (length kb)) then-key
         ∙ drop-drop (length kb) (length ka) (heldKeys s ++ (ka ++ kb))
         ∙ ap (λ (m : ℕ). drop m (heldKeys s ++ (ka ++ kb))) (sym (length-append ka kb))
-        ∙ sym (last-after (s .n) (heldKeys s) (ka ++ kb) held-length)
+        ∙ sym (last-after (s .n) (heldKeys s) (ka ++ kb) keys-length)
 
     two-sums : addSums (s .width) b (heldKeys (pushed s a ka) ++ kb) (heldSums (pushed s a ka)) ≡ addSums (s .width) (a ++ b) (heldKeys s ++ (ka ++ kb)) (heldSums s)
     two-sums =
         ap₂ (addSums (s .width) b)
         (then-key ∙ ap (λ (m : ℕ). drop m (heldKeys s ++ (ka ++ kb))) (t .words))
         (pushed-sums a ka
-        ∙ sym (sums-more (s .width) a (heldKeys s ++ ka) kb (heldSums s) (omega (arith, length-append (heldKeys s) ka, held-length, sums-length, t .words)))
+        ∙ sym (sums-more (s .width) a (heldKeys s ++ ka) kb (heldSums s) (omega (arith, length-append (heldKeys s) ka, keys-length, sums-length, t .words)))
         ∙ ap (λ (l : List ℕ). addSums (s .width) a l (heldSums s)) (append-assoc (heldKeys s) ka kb))
         ∙ sums-append (s .width) a b (heldKeys s ++ (ka ++ kb)) (heldSums s)
 

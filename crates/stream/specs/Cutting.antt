@@ -4,7 +4,7 @@ use mathlib.Core.Path.{_≡_}
 use mathlib.Core.List.{List, [], _∷_, _++_}
 use Prim.Native.Nat.{ℕ, _+_, _≤_}
 use lib.ListN.{length, replicate}
-use Rattle.sums.specs.Digest.{fits, fullWords, digest}
+use Rattle.counts.specs.Digest.{fits, fullWords, digest}
 use Rattle.digest.specs.Words.{digestAnswer, digestRow}
 use Rattle.stream.specs.declared.Stream.{Stream}
 use Rattle.stream.specs.State.{padded, fitState, lastWords, pushed}

@@ -1,12 +1,11 @@
 -- A stream's state (document 01, "Stream"): the settings, the count of words pushed, the last n key words and n full-width sums.
-use mathlib.Core.Bool.{Bool, not, _&&_}
+use mathlib.Core.Bool.{Bool, _&&_}
 use mathlib.Core.List.{List, [], _∷_, _++_}
-use Prim.Native.Nat.{ℕ, _+_, _%_, _-_, _^_}
-use lib.Dec.{leb, eqb}
+use Prim.Native.Nat.{ℕ, _+_, _-_}
 use lib.ListN.{length, take, drop, replicate}
-use Rattle.sums.specs.Digest.{fits, wholeSum}
-use Rattle.digest.specs.Answers.{Test, test}
-use Rattle.digest.specs.Sizes.{settingsAnswer}
+use Rattle.answers.specs.Answers.{noneOf}
+use Rattle.answers.specs.Table.{widthTest, keptTest, countTest, longTest, fitRow}
+use Rattle.sums.specs.Sums.{addSums}
 use Rattle.stream.specs.declared.Stream.{Stream}
 
 -- 01, "Stream", "Unused places are zero": a row of eight places, the words first
@@ -20,26 +19,12 @@ heldKeys s = take (s .n) (s .keys)
 abbrev pub heldSums : Stream → List ℕ
 heldSums s = take (s .n) (s .sums)
 
--- 01, the table's row 8: settings, count, words and sums in range, and every unused place zero, the only number below 2^0
+-- 01, the table's row 8: no setting outside 1 to 3, no count above 65,536, and in both rows no word of 2^w or more
+-- and no unused place that is not zero
 unfoldable pub fitState : Stream → Bool
 fitState s =
-    eqb (settingsAnswer (s .width) (s .kept) (s .n)) 0
-    && (leb (s .taken) 65536
-    && ((fits (s .width) (s .keys) && fits (s .width) (s .sums))
-    && (fits 0 (drop (s .n) (s .keys)) && fits 0 (drop (s .n) (s .sums)))))
-
--- 01, 5 Key: the key's words are not as many as asked, n at opening and the message's in a push
-unfoldable pub keyWordsTest : ℕ → ℕ → Test
-keyWordsTest asked words = test 5 (not (eqb words asked))
-
--- 01, 8 State: the state is not fit
-unfoldable pub stateTest : Stream → Test
-stateTest s = test 8 (not (fitState s))
-
--- 01, "Stream": what a push adds to the held sums, modulo 2^w; each sum has the key from one word further on
-unfoldable pub addSums : ℕ → List ℕ → List ℕ → List ℕ → List ℕ
-addSums w ms ks [] = []
-addSums w ms ks (s ∷ sums) = (s + wholeSum w ms ks) % 2 ^ w ∷ addSums w ms (drop 1 ks) sums
+    noneOf (widthTest (s .width) ∷ keptTest (s .width) (s .kept) ∷ countTest (s .n) ∷ longTest (s .taken) ∷ [])
+    && (fitRow (s .width) (s .n) (s .keys) && fitRow (s .width) (s .n) (s .sums))
 
 -- 01, "Stream": of the key words so far the state holds the last n
 unfoldable pub lastWords : ℕ → List ℕ → List ℕ

@@ -1,48 +1,55 @@
-// The first test that refuses a call, else 0.
+// The first test that refuses a call, else 0: one `if` for each row of the table.
 ghost use mathlib.Core.Path.{_≡_};
 ghost use Rattle.stream.specs.State.{fitState};
 ghost use Rattle.stream.specs.Calls.{openAnswer, pushAnswer, readAnswer};
 use crate::Stream;
-use digest::answers;
-use digest::range::all_bits;
-use digest::range::words_fit;
-use digest::sizes::settings;
+use answers::table;
 
 // Whether a state passes test 8.
-pub(crate) fn fit(s: Stream) -> bool
+fn fit(s: Stream) -> bool
     ensures { λ r. ⌜ r ≡ fitState s ⌝ }
 {
-    if settings(s.width, s.kept, s.n) != 0 {
+    if table::bad_width(s.width) {
         return false;
     }
-    if answers::MOST_WORDS < s.taken as usize {
+    if table::bad_kept(s.width, s.kept) {
         return false;
     }
-    let keys = s.keys;
-    let sums = s.sums;
-    if !words_fit(s.width, &keys, &sums) {
+    if table::bad_count(s.n) {
+        return false;
+    }
+    if table::too_long(answers::MOST_MESSAGE, s.taken as usize) {
         return false;
     }
     let n = s.n as usize;
-    // Only zero is below 2^0.
-    words_fit(0, &keys[n..], &sums[n..])
+    let keys = s.keys;
+    let sums = s.sums;
+    if table::fit_row(s.width, n, &keys) {
+        return table::fit_row(s.width, n, &sums);
+    }
+    false
 }
 
 // Width, Kept, Count, Key, Word.
 pub(crate) fn opening(w: u32, b: u32, n: u32, key: &[u32]) -> u32
     ensures { λ r. ⌜ r ≡ openAnswer w b n (now (key .entry)) ⌝ }
 {
-    let answer = settings(w, b, n);
-    if answer != 0 {
-        return answer;
+    if table::bad_width(w) {
+        return answers::WIDTH;
     }
-    if key.len() != n as usize {
+    if table::bad_kept(w, b) {
+        return answers::KEPT;
+    }
+    if table::bad_count(n) {
+        return answers::COUNT;
+    }
+    if table::bad_key(n as usize, key.len()) {
         return answers::KEY;
     }
-    if sums::below(w, all_bits(key)) {
-        return 0;
+    if table::bad_words(w, &key[..0], key) {
+        return answers::WORD;
     }
-    answers::WORD
+    0
 }
 
 // State, Long, Key, Word.
@@ -50,18 +57,18 @@ pub(crate) fn pushing(s: Stream, message: &[u32], key: &[u32]) -> u32
     ensures { λ r. ⌜ r ≡ pushAnswer s (now (message .entry)) (now (key .entry)) ⌝ }
 {
     if !fit(s) {
-        return crate::STATE;
+        return answers::STATE;
     }
-    if answers::MOST_WORDS < s.taken as usize + message.len() {
+    if table::too_long(answers::MOST_MESSAGE, s.taken as usize + message.len()) {
         return answers::LONG;
     }
-    if key.len() != message.len() {
+    if table::bad_key(message.len(), key.len()) {
         return answers::KEY;
     }
-    if words_fit(s.width, message, key) {
-        return 0;
+    if table::bad_words(s.width, message, key) {
+        return answers::WORD;
     }
-    answers::WORD
+    0
 }
 
 // State, Tray.
@@ -69,9 +76,9 @@ pub(crate) fn reading(s: Stream, out: &[u32]) -> u32
     ensures { λ r. ⌜ r ≡ readAnswer s (now (out .entry)) ⌝ }
 {
     if !fit(s) {
-        return crate::STATE;
+        return answers::STATE;
     }
-    if out.len() < s.n as usize {
+    if table::small_tray(s.n as usize, out.len()) {
         return answers::TRAY;
     }
     0

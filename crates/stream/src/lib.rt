@@ -4,10 +4,7 @@ ghost use Rattle.stream.specs.Calls.{openAnswer, openState, pushAnswer, 
 
 mod adding;
 mod judging;
-mod rows;
-
-// The number of a state that is not fit; the others are those of the digest.
-pub const STATE: u32 = 8;
+mod keys;
 
 // The settings, the count of words pushed, the last n key words and n full-width sums. Unused places are zero.
 pub struct Stream {
@@ -50,7 +47,7 @@ impl Stream {
             };
             return Opened { answer, state };
         }
-        let keys = rows::row(key);
+        let keys = keys::row(key);
         let state = Stream {
             width: w,
             kept: b,
@@ -92,7 +89,7 @@ impl Stream {
             return answer;
         }
         let sums = self.sums;
-        rows::write_kept(self.kept, self.n as usize, sums, out);
+        sums::many::write_kept(self.kept, self.n as usize, sums, out);
         0
     }
 }

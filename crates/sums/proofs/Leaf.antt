@@ -6,9 +6,9 @@ use native.Mathlib.Nat.{zero-mod, mod-add-mod}
 use native.Mathlib.Omega.{arith}
 use borrow.Author.Tests.{le-leb, lt-leb}
 use lib.ListN.{length, getD, take, drop-of-length-le}
-use Rattle.sums.specs.Digest.{oneWord}
+use Rattle.counts.specs.Digest.{oneWord}
 use Rattle.sums.specs.Leaf.{leafWord, orZero}
-use Rattle.sums.proofs.Laws.{sum-none, sum-short}
+use Rattle.counts.proofs.Laws.{sum-none, sum-short}
 use Rattle.sums.proofs.Apart.{reduced}
 
 pub leaf-wide : (w : ℕ) (ms ks : List ℕ) → 32 < w → leafWord w ms ks ≡ 0

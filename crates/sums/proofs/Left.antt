@@ -6,9 +6,9 @@ use native.Mathlib.Nat.{zero-add, zero-div, add-zero, add-assoc, mod-add-mod}
 use native.Mathlib.Numerals.{add-one}
 use lib.ListN.{length, getD, drop, drop-of-length-le}
 use lib.Seq.{drop-cons, drop-drop, getD-drop}
-use Rattle.sums.specs.Digest.{wholeSum, oneWord}
+use Rattle.counts.specs.Digest.{wholeSum, oneWord}
 use Rattle.sums.specs.Left.{together, added, Left}
-use Rattle.sums.proofs.Laws.{sum-cons}
+use Rattle.counts.proofs.Laws.{sum-cons}
 
 module _ (w : ℕ) (ms ks : List ℕ) where
   one-more : (i : ℕ) → i < length ms → wholeSum w (drop i ms) (drop i ks) ≡ added w ks i (getD ms i 0) + wholeSum w (drop (i + 1) ms) (drop (i + 1) ks)

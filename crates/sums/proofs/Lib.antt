@@ -1,16 +1,4 @@
-pub mod Sums
-pub mod Periodic
-pub mod Odd
-pub mod Spread
-pub mod Congruent
-pub mod Rows
-pub mod Chain
-pub mod Equation
-pub mod Words
-pub mod Demand3
-pub mod Corollaries
-pub mod Laws
 pub mod Apart
 pub mod Left
 pub mod Leaf
-pub mod FromBytes
+pub mod Each

@@ -3,7 +3,7 @@ use mathlib.Core.Bool.{Bool, true, false}
 use mathlib.Core.List.{List}
 use Prim.Native.Nat.{ℕ}
 use lib.Dec.{leb}
-use Rattle.sums.specs.Digest.{oneWord}
+use Rattle.counts.specs.Digest.{oneWord}
 
 -- the number where the test holds, else 0
 unfoldable pub orZero : Bool → ℕ → ℕ

@@ -2,9 +2,8 @@
 use mathlib.Core.Path.{_≡_}
 use mathlib.Core.List.{List}
 use Prim.Native.Nat.{ℕ, _+_, _*_, _/_, _%_, _^_}
-use lib.ListN.{length, getD, drop}
-use Rattle.sums.specs.Digest.{wholeSum, oneWord}
-use Rattle.sums.specs.Bytes.{wordsFrom, wordCount}
+use lib.ListN.{getD, drop}
+use Rattle.counts.specs.Digest.{wholeSum, oneWord}
 
 -- the code's two sums as one: the second stands w bits too high
 abbrev pub together : ℕ → ℕ → ℕ → ℕ
@@ -17,10 +16,3 @@ added w ks i m = m * getD ks i 0 + m * getD ks (i + 1) 0 / 2 ^ w
 -- the sum so far and that of the words from i on make the whole sum
 abbrev pub Left : ℕ → List ℕ → List ℕ → ℕ → ℕ → Type 0
 Left w ms ks sum i = (sum + wholeSum w (drop i ms) (drop i ks)) % 2 ^ w ≡ oneWord w ms ks
-
--- the words of c bytes, the last perhaps not full, and how many of them the full pairs have
-abbrev pub allWords : ℕ → List ℕ → List ℕ
-allWords c xs = wordsFrom c (wordCount c xs) xs
-
-abbrev pub paired : ℕ → List ℕ → ℕ
-paired c xs = length xs / c / 2 * 2

@@ -1,16 +1,15 @@
 // The one-word sum of the digest. Everything that digests a message runs through its loop.
-pub mod bytes;
+pub mod many;
 
 ghost use mathlib.Core.Path.{_≡_};
 ghost use Prim.Native.Nat.{_+_, _-_, _*_, _%_, _^_, _≤_, _<_};
 ghost use lib.ListN.{length};
-ghost use lib.Dec.{ltb};
-ghost use Rattle.sums.specs.Digest.{oneWord, kept};
+ghost use Rattle.counts.specs.Digest.{oneWord, kept};
 ghost use Rattle.sums.specs.Leaf.{leafWord};
 ghost use Rattle.sums.specs.Left.{together, added};
 
 // The whole product, of up to 64 bits.
-pub fn product(a: u32, b: u32) -> u64
+fn product(a: u32, b: u32) -> u64
     ensures { λ r. ⌜ r ≡ a * b ⌝ }
 {
     (a as u64) * (b as u64)
@@ -105,16 +104,6 @@ pub fn keep(b: u32, word: u32) -> u32
         return word;
     }
     low_bits(word as u64, b)
-}
-
-// Whether a word is below 2^w, for every w.
-pub fn below(w: u32, word: u32) -> bool
-    ensures { λ r. ⌜ r ≡ ltb word (2 ^ w) ⌝ }
-{
-    if 32 <= w {
-        return true;
-    }
-    (word as u64) < power(w)
 }
 
 fn low_bits(sum: u64, w: u32) -> u32

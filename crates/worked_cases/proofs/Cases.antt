@@ -7,20 +7,22 @@ use Prim.Native.Nat.{ℕ, zero, suc, _<_}
 use native.Mathlib.Nat.{not-suc-le-zero, le-of-suc-le-suc}
 use lib.Dec.{T}
 use lib.ListN.{length, getD}
-use Rattle.sums.specs.Digest.{fits, wholeSum, oneWord, fullWords, kept, digest}
-use Rattle.sums.specs.Count.{sumTo, overRows, asNumber, count, sameRow, every, differBy}
-use Rattle.sums.specs.Claims.{keysThatDiffer, keysThatGive}
-use Rattle.sums.specs.Corollaries.{RowTest}
-use Rattle.sums.specs.Bytes.{littleEndian, wordsFrom, countOf, wordsOf}
-use Rattle.stream.specs.Calls.{openAnswer, openState, pushAnswer, pushState, readAnswer, reading, readRow}
-use Rattle.stream.specs.State.{padded, fitState, keyWordsTest, stateTest, addSums, lastWords, pushed, opened, noStream}
-use Rattle.digest.specs.Sizes.{settingsAnswer}
-use Rattle.mt19937.specs.Published.{table, following, newWord, newWords}
-use Rattle.digest.specs.Answers.{firstOf, widthTest, keptTest, countTest, longTest, keyTest, trayTest, wordTest, afterwards}
+use Rattle.rows.specs.Written.{table}
+use Rattle.counts.specs.Digest.{fits, wholeSum, oneWord, fullWords, kept, digest}
+use Rattle.counts.specs.Count.{sumTo, overRows, asNumber, count, sameRow, every, differBy}
+use Rattle.counts.specs.Claims.{keysThatDiffer, keysThatGive}
+use Rattle.counts.specs.Corollaries.{RowTest}
+use Rattle.counts.proofs.Words.{both}
+use Rattle.counts.proofs.Corollaries.{row-test}
+use Rattle.answers.specs.Answers.{firstOf, noneOf, afterwards}
+use Rattle.answers.specs.Table.{badWidth, badKept, badCount, badWords, fitRow}
+use Rattle.sums.specs.Sums.{addSums}
+use Rattle.byte_sums.specs.Bytes.{littleEndian, wordsFrom, countOf, wordsOf}
 use Rattle.digest.specs.Words.{digestAnswer, digestRow}
+use Rattle.stream.specs.State.{padded, fitState, lastWords, pushed, opened, noStream}
+use Rattle.stream.specs.Calls.{openAnswer, openState, pushAnswer, pushState, readAnswer, reading, readRow}
+use Rattle.mt19937.specs.Published.{following, newWord, newWords, seeded}
 use Rattle.worked_cases.specs.Cases.{Case, case, called, cases}
-use Rattle.sums.proofs.Words.{both}
-use Rattle.sums.proofs.Corollaries.{row-test}
 
 agree : List Case → Bool
 agree [] = true
@@ -33,5 +35,5 @@ agree-at (c ∷ cs) t zero lt = row-test (c .given) (c .written) .0 (both (sameR
 agree-at (c ∷ cs) t (suc i) lt = agree-at cs (both (sameRow (c .given) (c .written)) (agree cs) t .1) i (le-of-suc-le-suc lt)
 
 pub every-case : (i : ℕ) → i < length cases → getD cases i (case [] []) .given ≡ getD cases i (case [] []) .written
-unfolding agree cases called openAnswer openState pushAnswer pushState readAnswer reading readRow padded settingsAnswer fitState keyWordsTest stateTest addSums lastWords pushed opened noStream wordsOf wordsFrom countOf littleEndian newWords table newWord following digestAnswer digestRow firstOf widthTest keptTest countTest longTest keyTest trayTest wordTest afterwards fits wholeSum oneWord fullWords kept digest sumTo overRows asNumber count sameRow every differBy keysThatDiffer keysThatGive
+unfolding agree cases called openAnswer openState pushAnswer pushState readAnswer reading readRow padded fitState addSums lastWords pushed opened noStream wordsOf wordsFrom countOf littleEndian seeded newWords table newWord following digestAnswer digestRow firstOf noneOf badWidth badKept badCount badWords fitRow afterwards fits wholeSum oneWord fullWords kept digest sumTo overRows asNumber count sameRow every differBy keysThatDiffer keysThatGive
 every-case = agree-at cases tt

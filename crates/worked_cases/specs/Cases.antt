@@ -1,12 +1,13 @@
 -- Document 01's starred cases: what the definitions give, and what the document says. One row for each case.
 use mathlib.Core.List.{List, [], _∷_}
-use Prim.Native.Nat.{ℕ}
-use lib.ListN.{replicate}
-use Rattle.sums.specs.Claims.{keysThatDiffer, keysThatGive}
-use Rattle.sums.specs.Bytes.{wordsOf}
+use Prim.Native.Nat.{ℕ, _+_, _*_, _-_, _^_}
+use lib.ListN.{take, replicate}
+use Rattle.counts.specs.Count.{count, sameRow}
+use Rattle.counts.specs.Claims.{keysThatDiffer, keysThatGive}
+use Rattle.byte_sums.specs.Bytes.{wordsOf}
 use Rattle.digest.specs.Words.{digestAnswer, digestRow}
 use Rattle.stream.specs.Calls.{openState, pushState, readRow}
-use Rattle.mt19937.specs.Published.{newWords}
+use Rattle.mt19937.specs.Published.{seeded}
 
 -- a row: the numbers that the definitions give, and those of the document
 pub record Case : Type 0 where
@@ -52,9 +53,15 @@ caseG = case (readRow (pushState (openState 8 8 2 (10 ∷ 20 ∷ [])) (3 ∷ [])
 abbrev pub caseH : Case
 caseH = case (wordsOf 16 (0x01 ∷ 0x02 ∷ 0x03 ∷ [])) (0x0201 ∷ 0x0003 ∷ [])
 
--- I: w 2, t 1, n 1, b 2: messages 1 and 3 agree under 6 of 16 keys
+-- I: w 2, t 1, n 1, b 2: messages 1 and 3 agree under 6 of 16 keys; the bound, 2^(w·t + n + n·(w−b)), is 8
 abbrev pub caseI : Case
-caseI = case (keysThatDiffer 2 2 1 1 (1 ∷ []) (3 ∷ []) (0 ∷ []) ∷ []) (6 ∷ [])
+caseI =
+    case
+    (keysThatDiffer 2 2 1 1 (1 ∷ []) (3 ∷ []) (0 ∷ [])
+    ∷ count 2 (1 + 1) (λ ks. sameRow ks ks)
+    ∷ 2 ^ (2 * 1 + 1 + 1 * (2 - 2))
+    ∷ [])
+    (6 ∷ 16 ∷ 8 ∷ [])
 
 -- J: same settings, message 3: each digest has exactly 4 keys
 abbrev pub caseJ : Case
@@ -67,9 +74,9 @@ caseJ =
     ∷ [])
     (4 ∷ 4 ∷ 4 ∷ 4 ∷ [])
 
--- K: seed 0 makes state words 0, 1, 1812433255 first
+-- K: seed 0 makes state words 0, 1, 1812433255 first, in the new generator's own state
 abbrev pub caseK : Case
-caseK = case (newWords 0 3) (0 ∷ 1 ∷ 1812433255 ∷ [])
+caseK = case (take 3 (seeded 0 .words)) (0 ∷ 1 ∷ 1812433255 ∷ [])
 
 unfoldable pub cases : List Case
 cases = caseA ∷ caseB ∷ caseC ∷ caseD ∷ caseE ∷ caseF ∷ caseG ∷ caseH ∷ caseI ∷ caseJ ∷ caseK ∷ []

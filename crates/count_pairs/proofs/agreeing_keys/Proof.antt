@@ -3,7 +3,7 @@ use Prim.Native.Nat.{_-_, _*_, _≤_}
 use mathlib.Core.Path.{_≡_, _∙_, sym}
 use native.Mathlib.Omega.{arith}
 use borrow.Author.Needs.{needs}
-use Rattle.sums.specs.Count.{sumTo}
+use Rattle.counts.specs.Count.{sumTo}
 use Rattle.count_pairs.specs.Agree.{agreeingAfter}
 use Rattle.count_pairs.proofs.Laws.{sum-more, over-first}
 use Rattle.count_pairs.proofs.agreeing_keys.Statement.{statement}

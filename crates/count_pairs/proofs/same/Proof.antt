@@ -2,7 +2,7 @@
 use mathlib.Core.Path.{ap, sym}
 use borrow.Author.Needs.{needs}
 use borrow.Author.Tests.{eq-eqb, ne-eqb}
-use Rattle.sums.specs.Count.{asNumber}
+use Rattle.counts.specs.Count.{asNumber}
 use Rattle.count_pairs.proofs.same.Statement.{statement}
 use Rattle.count_pairs.proofs.same.Tie as tie
 

@@ -3,7 +3,7 @@ use mathlib.Core.Path.{_≡_}
 use Prim.Native.Nat.{_-_, _≤_}
 use native.Mathlib.Omega.{arith}
 use borrow.Author.Needs.{needs}
-use Rattle.sums.specs.Count.{sumTo}
+use Rattle.counts.specs.Count.{sumTo}
 use Rattle.count_pairs.specs.Search.{standsAt}
 use Rattle.count_pairs.proofs.Laws.{sum-more}
 use Rattle.count_pairs.proofs.times.Statement.{statement}

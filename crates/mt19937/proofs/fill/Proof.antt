@@ -7,7 +7,8 @@ use native.Mathlib.Omega.{arith}
 use borrow.Author.Needs.{needs}
 use lib.ListN.{length, replicate, length-replicate}
 use Rattle.mt19937.specs.Published.{following, newWord, newWords}
-use Rattle.mt19937.proofs.Laws.{written, written-none, written-next, written-all}
+use Rattle.rows.specs.Written.{written}
+use Rattle.rows.proofs.Written.{written-none, written-next, written-all}
 use Rattle.mt19937.proofs.fill.Statement.{statement}
 use Rattle.mt19937.proofs.fill.Tie as tie
 

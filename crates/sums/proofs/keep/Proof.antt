@@ -4,7 +4,7 @@ use native.Mathlib.Nat.{mod-eq-of-lt}
 use native.Mathlib.Omega.{arith}
 use borrow.Author.Needs.{needs}
 use lib.Pow.{pow-mono}
-use Rattle.sums.specs.Digest.{kept}
+use Rattle.counts.specs.Digest.{kept}
 use Rattle.sums.proofs.keep.Statement.{statement}
 use Rattle.sums.proofs.keep.Tie as tie
 

@@ -2,7 +2,7 @@
 use mathlib.Core.Path.{refl}
 use Prim.Native.Nat.{_≤_, _-_}
 use lib.ListN.{length}
-use Rattle.digest.proofs.Fits.{Agreeing, agreeing-step, agreeing-end}
+use Rattle.digest.proofs.Agree.{Agreeing, agreeing-step, agreeing-end}
 use borrow.Author.Needs.{needs}
 use Rattle.digest.proofs.matching.unlike.Statement.{statement}
 use Rattle.digest.proofs.matching.unlike.Tie as tie

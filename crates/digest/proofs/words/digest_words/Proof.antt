@@ -1,14 +1,9 @@
 -- `digest::words::digest_words` meets its contract: a refusal writes nothing, and an accepted call writes the digest.
-use mathlib.Core.Path.{sym, ap, _∙_}
-use mathlib.Core.Bool.{not, _&&_}
-use native.Mathlib.Omega.{arith}
-use lib.ListN.{length}
-use Rattle.sums.specs.Digest.{fits, digest}
-use Rattle.digest.specs.Answers.{wordTest}
-use Rattle.digest.specs.Words.{digestAnswer, digestRow}
-use Rattle.digest.proofs.Judged.{sized}
-use Rattle.digest.proofs.Outcome.{by-size, by-word, by-writing}
-use Rattle.digest.proofs.Written.{length-digest}
+use mathlib.Core.Path.{sym, _∙_}
+use Rattle.answers.proofs.Rows.{refused, accepted}
+use Rattle.sums.proofs.Each.{digest-written}
+use Rattle.digest.specs.Words.{digestRow}
+use Rattle.digest.proofs.Passed.{words-passed}
 use borrow.Author.Needs.{needs}
 use Rattle.digest.proofs.words.digest_words.Statement.{statement}
 use Rattle.digest.proofs.words.digest_words.Tie as tie
@@ -16,50 +11,42 @@ use Rattle.digest.proofs.words.digest_words.Tie as tie
 judge-requires : tie.Need-judge-requires
 judge-requires c κs = search needs
 
-returns : tie.Need-returns
-unfolding digestAnswer digestRow wordTest
-returns c =
-    let a = c .before .before .before .before .before .args in
-    let ws = digest (a .w) (a .b) (a .n) (a .message .now) (a .key .now) in
-    let unfit = not (fits (a .w) (a .message .now) && fits (a .w) (a .key .now)) in
-    by-size (a .w) (a .b) (a .n) (length (a .message .now)) (length (a .key .now)) (length (a .out .now)) ws (a .out .now) unfit _ (c .before .judge .ensures) (c .if1 .taken)
-
-words-fit-requires : tie.Need-words-fit-requires
-words-fit-requires c κs = search needs
-
-write-words-requires : tie.Need-write-words-requires
-write-words-requires c κs =
-    let s = sized _ _ _ _ _ _ (sym (c .before .before .before .before .judge .ensures) ∙ c .before .before .before .if1 .left) in
-    (s .width-high, omega arith, s .room)
-
 same-length : tie.Need-same-length
 same-length c = search needs
 
-returns-2 : tie.Need-returns-2
-unfolding digestAnswer digestRow wordTest
-returns-2 c =
-    let a = c .before .before .before .before .before .before .before .before .before .before .before .args in
-    let ws = digest (a .w) (a .b) (a .n) (a .message .now) (a .key .now) in
-    let unfit = not (fits (a .w) (a .message .now) && fits (a .w) (a .key .now)) in
-    by-writing (a .w) (a .b) (a .n) (length (a .message .now)) (length (a .key .now)) (length (a .out .now)) ws (a .out .now) unfit _ (c .before .before .before .before .before .before .before .judge .ensures) (c .before .before .before .before .before .before .if1 .left)
-    (ap not (sym (c .before .before .before .before .before .words-fit .ensures) ∙ c .before .before .before .before .if2 .taken)) (length-digest (a .w) (a .b) (a .n) (a .message .now) (a .key .now)) _ (c .before .before .write-words .ensures)
+returns : tie.Need-returns
+unfolding digestRow
+returns c = refused _ _ (c .before .judge .ensures) (c .if1 .taken)
 
-returns-3 : tie.Need-returns-3
-unfolding digestAnswer digestRow wordTest
-returns-3 c =
-    let a = c .before .before .before .before .before .before .before .args in
-    let ws = digest (a .w) (a .b) (a .n) (a .message .now) (a .key .now) in
-    let unfit = not (fits (a .w) (a .message .now) && fits (a .w) (a .key .now)) in
-    by-word (a .w) (a .b) (a .n) (length (a .message .now)) (length (a .key .now)) (length (a .out .now)) ws (a .out .now) unfit _ (c .before .before .before .judge .ensures) (c .before .before .if1 .left) (ap not (sym (c .before .words-fit .ensures) ∙ c .if2 .left))
+add-sums-requires : tie.Need-add-sums-requires
+add-sums-requires c κs = search needs
+
+write-kept-requires : tie.Need-write-kept-requires
+write-kept-requires c κs = search needs
+
+same-length-2 : tie.Need-same-length-2
+same-length-2 c = search needs
+
+returns-2 : tie.Need-returns-2
+unfolding digestRow
+returns-2 c =
+    let wrote = c .before .before in
+    let added = wrote .before .before in
+    let none = added .before in
+    let call = none .before in
+    let a = call .before .before .before .before .before .args in
+    let p = words-passed _ _ _ _ _ _ (sym (call .judge .ensures) ∙ none .if1 .left) in
+    let words = digest-written (a .w) (a .b) (a .n) (a .message .now) (a .key .now) (added .add-sums .result) (a .out .now) (p .width) (p .words) (p .room) (added .add-sums .ensures) in
+    accepted _ _ (call .judge .ensures) _ (none .if1 .left) (wrote .write-kept .ensures ∙ words)
 
 pub digest-words-spec : {M : Type 1} → statement M
 digest-words-spec =
     tie.close
     (tie.spec
     judge-requires
-    returns
-    words-fit-requires
-    write-words-requires
     same-length
-    returns-2
-    returns-3)
+    returns
+    add-sums-requires
+    write-kept-requires
+    same-length-2
+    returns-2)

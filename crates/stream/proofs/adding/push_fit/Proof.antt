@@ -14,13 +14,13 @@ accepted c = takes _ _ _ (c .pre)
 cast-n : tie.Need-cast-n
 cast-n c = search needs
 
-add-sums-requires : tie.Need-add-sums-requires
-add-sums-requires c κs =
+push-sums-requires : tie.Need-push-sums-requires
+push-sums-requires c κs =
     let t = accepted (c .before .before .before .before .before) in
-    (t .state .settings .width-high, t .state .settings .count-high, sym (t .words))
+    (t .state .settings .width, t .state .settings .words, sym (t .words))
 
-last-keys-requires : tie.Need-last-keys-requires
-last-keys-requires c κs = accepted (c .before .before .before .before .before .before) .state .settings .count-high
+last-requires : tie.Need-last-requires
+last-requires c κs = accepted (c .before .before .before .before .before .before) .state .settings .words
 
 cast-words : tie.Need-cast-words
 cast-words c = omega (arith, accepted (c .before .before .before .before .before .before .before) .room)
@@ -34,8 +34,8 @@ returns c =
     let a = start .args in
     let state = accepted start .state in
     let eight : length (a .s .sums) ≡ 8 = search needs in
-    pushed-from (a .s) (a .message .now) (a .key .now) _ _ (state .settings .count-high) eight (state .unused-sums) (c .before .last-keys .ensures) (c .before .before .add-sums .ensures)
+    pushed-from (a .s) (a .message .now) (a .key .now) _ _ (state .settings .width) (state .settings .words) eight (state .sums) (c .before .last .ensures) (c .before .before .push-sums .ensures)
 
 pub push-fit-spec : {M : Type 1} → statement M
 push-fit-spec =
-    tie.close (tie.spec cast-n add-sums-requires last-keys-requires cast-words add-taken returns)
+    tie.close (tie.spec cast-n push-sums-requires last-requires cast-words add-taken returns)

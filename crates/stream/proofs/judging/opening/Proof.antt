@@ -1,59 +1,66 @@
--- `stream::judging::opening` meets its contract: the settings' answer, or the first later test that holds.
-use mathlib.Core.Path.{sym, _∙_}
-use mathlib.Core.List.{[]}
-use Rattle.sums.specs.Digest.{fits}
-use Rattle.digest.proofs.Judged.{word-stops, word-passes, none-holds}
+-- `stream::judging::opening` meets its contract: each return is the first test that holds.
+use mathlib.Core.Path.{sym}
+use Rattle.answers.proofs.Judged.{judged}
 use Rattle.stream.specs.Calls.{openAnswer}
-use Rattle.stream.proofs.Judged.{settled, settings-stop, settings-pass, key-words-stop, key-words-pass}
 use borrow.Author.Needs.{needs}
 use Rattle.stream.proofs.judging.opening.Statement.{statement}
 use Rattle.stream.proofs.judging.opening.Tie as tie
 
-settings-requires : tie.Need-settings-requires
-settings-requires c κs = search needs
+bad-width-requires : tie.Need-bad-width-requires
+bad-width-requires c κs = search needs
 
 returns : tie.Need-returns
-unfolding openAnswer fits
-returns c =
-    let e = c .before .settings .ensures in
-    e ∙ sym (settings-stop _ _ _ _ 0 (λ z. c .if1 .taken (e ∙ z)))
+unfolding openAnswer
+returns c = sym (search judged depth 9)
+
+bad-kept-requires : tie.Need-bad-kept-requires
+bad-kept-requires c κs = search needs
 
 returns-2 : tie.Need-returns-2
-unfolding openAnswer fits
-returns-2 c =
-    let pass = settings-pass _ _ _ _ 0 (settled _ _ _ (sym (c .before .before .settings .ensures) ∙ c .before .if1 .left)) in
-    sym (pass ∙ key-words-stop _ _ _ 0 (c .if2 .taken))
+unfolding openAnswer
+returns-2 c = sym (search judged depth 9)
 
-all-bits-requires : tie.Need-all-bits-requires
-all-bits-requires c κs = search needs
-
-below-requires : tie.Need-below-requires
-below-requires c κs = search needs
+bad-count-requires : tie.Need-bad-count-requires
+bad-count-requires c κs = search needs
 
 returns-3 : tie.Need-returns-3
-unfolding openAnswer fits
-returns-3 c =
-    let pass = settings-pass _ _ _ _ 0 (settled _ _ _ (sym (c .before .before .before .before .before .settings .ensures) ∙ c .before .before .before .before .if1 .left)) in
-    let words = c .before .before .before .if2 .left in
-    let fit = sym (c .before .before .all-bits .ensures _) ∙ sym (c .before .below .ensures) ∙ c .if3 .taken in
-    sym (pass ∙ key-words-pass _ _ _ 0 words ∙ word-passes [] 0 _ [] _ fit ∙ none-holds 0)
+unfolding openAnswer
+returns-3 c = sym (search judged depth 9)
+
+bad-key-requires : tie.Need-bad-key-requires
+bad-key-requires c κs = search needs
 
 returns-4 : tie.Need-returns-4
-unfolding openAnswer fits
-returns-4 c =
-    let pass = settings-pass _ _ _ _ 0 (settled _ _ _ (sym (c .before .before .before .before .before .settings .ensures) ∙ c .before .before .before .before .if1 .left)) in
-    let words = c .before .before .before .if2 .left in
-    let unfit = sym (c .before .before .all-bits .ensures _) ∙ sym (c .before .below .ensures) ∙ c .if3 .left in
-    sym (pass ∙ key-words-pass _ _ _ 0 words ∙ word-stops [] 0 _ [] _ unfit)
+unfolding openAnswer
+returns-4 c = sym (search judged depth 9)
+
+slice-aggregate-bad-words : tie.Need-slice-aggregate-bad-words
+slice-aggregate-bad-words c = search needs
+
+bad-words-requires : tie.Need-bad-words-requires
+bad-words-requires c κs = search needs
+
+returns-5 : tie.Need-returns-5
+unfolding openAnswer
+returns-5 c = sym (search judged depth 9)
+
+returns-6 : tie.Need-returns-6
+unfolding openAnswer
+returns-6 c = sym (search judged depth 9)
 
 pub opening-spec : {M : Type 1} → statement M
 opening-spec =
     tie.close
     (tie.spec
-    settings-requires
+    bad-width-requires
     returns
+    bad-kept-requires
     returns-2
-    all-bits-requires
-    below-requires
+    bad-count-requires
     returns-3
-    returns-4)
+    bad-key-requires
+    returns-4
+    slice-aggregate-bad-words
+    bad-words-requires
+    returns-5
+    returns-6)

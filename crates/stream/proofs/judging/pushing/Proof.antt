@@ -1,10 +1,7 @@
 -- `stream::judging::pushing` meets its contract: each return is the first test that holds.
-use mathlib.Core.Path.{sym, _∙_}
-use native.Mathlib.Omega.{arith}
-use borrow.Author.Tests.{not-true, not-false}
-use Rattle.digest.proofs.Judged.{judged}
+use mathlib.Core.Path.{sym}
+use Rattle.answers.proofs.Judged.{judged}
 use Rattle.stream.specs.Calls.{pushAnswer}
-use Rattle.stream.proofs.Judged.{stream-judged}
 use borrow.Author.Needs.{needs}
 use Rattle.stream.proofs.judging.pushing.Statement.{statement}
 use Rattle.stream.proofs.judging.pushing.Tie as tie
@@ -14,36 +11,38 @@ fit-requires c κs = search needs
 
 returns : tie.Need-returns
 unfolding pushAnswer
-returns c = let unfit = sym (c .before .fit .ensures) ∙ not-true _ (c .if1 .taken) in search (judged, stream-judged, arith) depth 9
+returns c = sym (search judged depth 9)
 
-cast-if2 : tie.Need-cast-if2
-cast-if2 c = search needs
+cast-too-long : tie.Need-cast-too-long
+cast-too-long c = search needs
 
-add-if2 : tie.Need-add-if2
-add-if2 c = search needs
+add-too-long : tie.Need-add-too-long
+add-too-long c = search needs
+
+too-long-requires : tie.Need-too-long-requires
+too-long-requires c κs = search needs
 
 returns-2 : tie.Need-returns-2
 unfolding pushAnswer
-returns-2 c = let fit = sym (c .before .before .before .fit .ensures) ∙ not-false _ (c .before .before .if1 .left) in search (judged, stream-judged, arith) depth 9
+returns-2 c = sym (search judged depth 9)
+
+bad-key-requires : tie.Need-bad-key-requires
+bad-key-requires c κs = search needs
 
 returns-3 : tie.Need-returns-3
 unfolding pushAnswer
-returns-3 c = let fit = sym (c .before .before .before .before .fit .ensures) ∙ not-false _ (c .before .before .before .if1 .left) in search (judged, stream-judged, arith) depth 9
+returns-3 c = sym (search judged depth 9)
 
-words-fit-requires : tie.Need-words-fit-requires
-words-fit-requires c κs = search needs
+bad-words-requires : tie.Need-bad-words-requires
+bad-words-requires c κs = search needs
 
 returns-4 : tie.Need-returns-4
 unfolding pushAnswer
-returns-4 c =
-    let state = sym (c .before .before .before .before .before .before .fit .ensures) ∙ not-false _ (c .before .before .before .before .before .if1 .left) in
-    let fit = sym (c .before .words-fit .ensures) ∙ c .if4 .taken in search (judged, stream-judged, arith) depth 9
+returns-4 c = sym (search judged depth 9)
 
 returns-5 : tie.Need-returns-5
 unfolding pushAnswer
-returns-5 c =
-    let state = sym (c .before .before .before .before .before .before .fit .ensures) ∙ not-false _ (c .before .before .before .before .before .if1 .left) in
-    let unfit = sym (c .before .words-fit .ensures) ∙ c .if4 .left in search (judged, stream-judged, arith) depth 9
+returns-5 c = sym (search judged depth 9)
 
 pub pushing-spec : {M : Type 1} → statement M
 pushing-spec =
@@ -51,10 +50,12 @@ pushing-spec =
     (tie.spec
     fit-requires
     returns
-    cast-if2
-    add-if2
+    cast-too-long
+    add-too-long
+    too-long-requires
     returns-2
+    bad-key-requires
     returns-3
-    words-fit-requires
+    bad-words-requires
     returns-4
     returns-5)

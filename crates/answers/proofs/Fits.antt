@@ -1,0 +1,83 @@
+-- The range test of words by the bits that stand in some word, and parts of a row that fits.
+use mathlib.Core.Path.{_≡_, refl, sym, ap, ap₂, _∙_}
+use mathlib.Core.Bool.{Bool, true, false, _&&_, and-true, and-assoc, true≢false}
+use mathlib.Core.List.{List, [], _∷_, _++_}
+use Prim.Native.Nat.{ℕ, zero, suc, _+_, _^_, _≤_, _<_}
+use native.Mathlib.Decide.{decLt}
+use native.Mathlib.Numerals.{add-one}
+use native.Mathlib.Omega.{arith}
+use lib.Bits.{bitOr, or-lt, or-add-and, and-le-l, and-le-r}
+use lib.Dec.{ltb}
+use lib.Pow.{pow-pos}
+use lib.ListN.{length, getD, take, drop, replicate, take-append-drop, drop-of-length-le}
+use lib.Seq.{drop-cons, take-all}
+use borrow.Author.Tests.{lt-ltb, le-ltb}
+use Rattle.counts.specs.Digest.{fits}
+use Rattle.answers.specs.Range.{joined}
+use Rattle.answers.specs.Table.{fitRow}
+
+-- a number of bits holds both words exactly where it holds all their bits
+pub or-below : (w x y : ℕ) → ltb (bitOr x y) (2 ^ w) ≡ (ltb x (2 ^ w) && ltb y (2 ^ w))
+or-below w x y = go (decLt x (2 ^ w)) (decLt y (2 ^ w))
+  where
+    left : x ≤ bitOr x y
+    left = omega (arith, or-add-and x y, and-le-r x y)
+
+    right : y ≤ bitOr x y
+    right = omega (arith, or-add-and x y, and-le-l x y)
+
+    go : Dec (x < 2 ^ w) → Dec (y < 2 ^ w) → ltb (bitOr x y) (2 ^ w) ≡ (ltb x (2 ^ w) && ltb y (2 ^ w))
+    go (yes hx) (yes hy) = lt-ltb (bitOr x y) (2 ^ w) (or-lt w x y hx hy) ∙ sym (rw (lt-ltb x (2 ^ w) hx, lt-ltb y (2 ^ w) hy))
+    go (yes hx) (no hy) = le-ltb (bitOr x y) (2 ^ w) (omega (arith, right)) ∙ sym (rw (lt-ltb x (2 ^ w) hx, le-ltb y (2 ^ w) (omega arith)))
+    go (no hx) d = le-ltb (bitOr x y) (2 ^ w) (omega (arith, left)) ∙ sym (rw (le-ltb x (2 ^ w) (omega arith)))
+
+joined-below : (w bits : ℕ) (ws : List ℕ) → ltb (joined bits ws) (2 ^ w) ≡ (ltb bits (2 ^ w) && fits w ws)
+unfolding joined fits
+joined-below w bits [] = sym (and-true (ltb bits (2 ^ w)))
+joined-below w bits (x ∷ ws) =
+    joined-below w (bitOr bits x) ws
+    ∙ ap (λ (t : Bool). t && fits w ws) (or-below w bits x)
+    ∙ and-assoc (ltb bits (2 ^ w)) (ltb x (2 ^ w)) (fits w ws)
+
+-- all bits are below 2^w exactly where every word is
+pub all-below : (w : ℕ) (ws : List ℕ) → ltb (joined 0 ws) (2 ^ w) ≡ fits w ws
+all-below w ws = joined-below w 0 ws ∙ rw (lt-ltb 0 (2 ^ w) (pow-pos w))
+
+-- the loop: the bits so far, joined by those of the words from i on
+abbrev pub Joining : List ℕ → ℕ → ℕ → Type 0
+Joining ws bits i = joined bits (drop i ws) ≡ joined 0 ws
+
+pub joining-step : (ws : List ℕ) (bits i : ℕ) → i < length ws → Joining ws bits i → Joining ws (bitOr bits (getD ws i 0)) (i + 1)
+unfolding joined
+joining-step ws bits i lt h =
+    ap (λ (n : ℕ). joined (bitOr bits (getD ws i 0)) (drop n ws)) (add-one i)
+    ∙ ap (joined bits) (sym (drop-cons ws i 0 lt))
+    ∙ h
+
+pub joining-end : (ws : List ℕ) (bits i : ℕ) → length ws ≤ i → Joining ws bits i → bits ≡ joined 0 ws
+unfolding joined
+joining-end ws bits i le h = ap (joined bits) (sym (drop-of-length-le ws le)) ∙ h
+
+-- both of two tests
+pub both : (a b : Bool) → (a && b) ≡ true → (a ≡ true) × (b ≡ true)
+both true b e = (refl, e)
+both false b e = absurd (true≢false (sym e))
+
+pub fits-append : (w : ℕ) (a b : List ℕ) → fits w (a ++ b) ≡ (fits w a && fits w b)
+unfolding fits
+fits-append w [] b = refl
+fits-append w (x ∷ a) b = ap (λ (t : Bool). ltb x (2 ^ w) && t) (fits-append w a b) ∙ sym (and-assoc (ltb x (2 ^ w)) (fits w a) (fits w b))
+
+-- parts of a row that fits
+pub fits-parts : (w n : ℕ) (xs : List ℕ) → fits w xs ≡ true → (fits w (take n xs) ≡ true) × (fits w (drop n xs) ≡ true)
+fits-parts w n xs h = both (fits w (take n xs)) (fits w (drop n xs)) (sym (fits-append w (take n xs) (drop n xs)) ∙ ap (fits w) (take-append-drop n xs) ∙ h)
+
+pub fits-zeros : (w n : ℕ) → fits w (replicate n 0) ≡ true
+unfolding fits
+fits-zeros w zero = refl
+fits-zeros w (suc n) = rw (lt-ltb 0 (2 ^ w) (pow-pos w)) (fits-zeros w n)
+
+-- a row with no unused place
+pub fit-row-whole : (w n : ℕ) (row : List ℕ) → length row ≤ n → fitRow w n row ≡ fits w row
+unfolding fitRow fits
+fit-row-whole w n row le = rw (take-all n row le, drop-of-length-le row le) (and-true (fits w row))

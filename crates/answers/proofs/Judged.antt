@@ -1,0 +1,138 @@
+-- The first test that holds gives the answer: it stops, or it passes. What a test that passes says of the call.
+use mathlib.Core.Path.{_≡_, refl, sym, ap, _∙_}
+use mathlib.Core.Bool.{Bool, true, false, not, _&&_, _||_, true≢false}
+use mathlib.Core.List.{List, [], _∷_}
+use Prim.Native.Nat.{ℕ, suc, _+_, _≤_, _<_}
+use native.Mathlib.Omega.{arith}
+use native.Mathlib.Decide.{ℕ-discrete}
+use lib.Dec.{ltb, eqb}
+use borrow.Author.Tests.{le-ltb, eq-eqb, ne-eqb, ltb-false, eqb-true, eqb-false, not-false}
+use Rattle.counts.specs.Digest.{fits}
+use Rattle.counts.specs.Corollaries.{InRange}
+use Rattle.answers.specs.Answers.{Test, test, firstOf, noneOf}
+use Rattle.answers.specs.Table.{badWidth, badByteWidth, badKept, badCount, tooLong, badKey, smallTray, badRows, badWords, widthTest, keptTest, countTest}
+use Rattle.answers.proofs.Fits.{both}
+
+-- r is what the row's function answers, x what the tests after it give
+module _ (n : ℕ) (ts : List Test) (a : ℕ) {h r : Bool} where
+  pub stops : r ≡ h → r ≡ true → firstOf (test n h ∷ ts) a ≡ n
+  unfolding firstOf
+  stops e t = rw (sym e ∙ t)
+
+  pub passes : {x : ℕ} → r ≡ h → r ≡ false → firstOf ts a ≡ x → firstOf (test n h ∷ ts) a ≡ x
+  unfolding firstOf
+  passes e t p = rw (sym e ∙ t) p
+
+  -- a row whose condition is that something does not hold
+  pub stops-not : r ≡ h → not r ≡ true → firstOf (test n (not h) ∷ ts) a ≡ n
+  unfolding firstOf
+  stops-not e t = rw (ap not (sym e) ∙ t)
+
+  pub passes-not : {x : ℕ} → r ≡ h → not r ≡ false → firstOf ts a ≡ x → firstOf (test n (not h) ∷ ts) a ≡ x
+  unfolding firstOf
+  passes-not e t p = rw (ap not (sym e) ∙ t) p
+
+pub none-holds : (a : ℕ) → firstOf [] a ≡ a
+unfolding firstOf
+none-holds a = refl
+
+-- for the search of a function that judges
+pub ruleset judged = (stops, passes, stops-not, passes-not, none-holds)
+
+-- a test that did not stop an accepted call does not hold
+pub passed : (n : ℕ) (h : Bool) (ts : List Test) → firstOf (test (suc n) h ∷ ts) 0 ≡ 0 → (h ≡ false) × (firstOf ts 0 ≡ 0)
+unfolding firstOf
+passed n true ts e = absurd (omega arith)
+passed n false ts e = (refl, e)
+
+pub none-passed : (n : ℕ) (h : Bool) (ts : List Test) → noneOf (test n h ∷ ts) ≡ true → (h ≡ false) × (noneOf ts ≡ true)
+unfolding noneOf
+none-passed n h ts e = let p = both (not h) (noneOf ts) e in (flipped h (p .0), p .1)
+  where
+    flipped : (h : Bool) → not h ≡ true → h ≡ false
+    flipped true z = absurd (true≢false (sym z))
+    flipped false z = refl
+
+either : (a b : Bool) → (a || b) ≡ false → (a ≡ false) × (b ≡ false)
+either true b e = absurd (true≢false e)
+either false b e = (refl, e)
+
+-- for each row, what a call has passed; and that such a call passes
+module _ (w : ℕ) where
+  pub width-passed : badWidth w ≡ false → (1 ≤ w) × (w ≤ 32)
+  unfolding badWidth
+  width-passed e = let p = either (ltb w 1) (ltb 32 w) e in (ltb-false w 1 (p .0), ltb-false 32 w (p .1))
+
+  pub width-passes : 1 ≤ w → w ≤ 32 → badWidth w ≡ false
+  unfolding badWidth
+  width-passes h k = rw (le-ltb w 1 h, le-ltb 32 w k)
+
+  module _ (b : ℕ) where
+    pub kept-passed : badKept w b ≡ false → (1 ≤ b) × (b ≤ w)
+    unfolding badKept
+    kept-passed e = let p = either (eqb b 0) (ltb w b) e in (above (eqb-false b 0 (p .0)), ltb-false w b (p .1))
+      where
+        above : (b ≡ 0 → ⊥) → 1 ≤ b
+        above ne = omega arith
+
+    pub kept-passes : 1 ≤ b → b ≤ w → badKept w b ≡ false
+    unfolding badKept
+    kept-passes h k = rw (ne-eqb b 0 (λ e. omega arith), le-ltb w b k)
+
+module _ (n : ℕ) where
+  pub count-passed : badCount n ≡ false → (1 ≤ n) × (n ≤ 8)
+  unfolding badCount
+  count-passed e = let p = either (ltb n 1) (ltb 8 n) e in (ltb-false n 1 (p .0), ltb-false 8 n (p .1))
+
+  pub count-passes : 1 ≤ n → n ≤ 8 → badCount n ≡ false
+  unfolding badCount
+  count-passes h k = rw (le-ltb n 1 h, le-ltb 8 n k)
+
+  pub rows-passed : (x y : ℕ) → badRows n x y ≡ false → (x ≡ n) × (y ≡ n)
+  unfolding badRows
+  rows-passed x y e = let p = both (eqb x n) (eqb y n) (not-false _ e) in (eqb-true x n (p .0), eqb-true y n (p .1))
+
+  pub rows-pass : (x y : ℕ) → x ≡ n → y ≡ n → badRows n x y ≡ false
+  unfolding badRows
+  rows-pass x y h k = rw (eq-eqb x n h, eq-eqb y n k)
+
+-- the most, or as many as are asked, against what there is
+module _ (a x : ℕ) where
+  pub long-passed : tooLong a x ≡ false → x ≤ a
+  long-passed e = ltb-false a x e
+
+  pub long-passes : x ≤ a → tooLong a x ≡ false
+  long-passes h = le-ltb a x h
+
+  pub key-passed : badKey a x ≡ false → x ≡ a
+  key-passed e = eqb-true x a (not-false _ e)
+
+  pub key-passes : x ≡ a → badKey a x ≡ false
+  key-passes h = rw (eq-eqb x a h)
+
+  pub tray-passed : smallTray a x ≡ false → a ≤ x
+  tray-passed e = ltb-false x a e
+
+  pub tray-passes : a ≤ x → smallTray a x ≡ false
+  tray-passes h = le-ltb x a h
+
+module _ (w : ℕ) (ms ks : List ℕ) where
+  pub words-passed : badWords w ms ks ≡ false → (fits w ms ≡ true) × (fits w ks ≡ true)
+  unfolding badWords
+  words-passed e = both (fits w ms) (fits w ks) (not-false _ e)
+
+  pub words-pass : fits w ms ≡ true → fits w ks ≡ true → badWords w ms ks ≡ false
+  unfolding badWords
+  words-pass h k = rw (h, k)
+
+-- settings that pass tests 1 to 3 are those in range
+pub in-range : (w b n : ℕ) → badWidth w ≡ false → badKept w b ≡ false → badCount n ≡ false → InRange w b n
+in-range w b n hw hb hn =
+    record {
+      some-width = width-passed w hw .0;
+      width = width-passed w hw .1;
+      some-kept = kept-passed w b hb .0;
+      kept = kept-passed w b hb .1;
+      some-words = count-passed n hn .0;
+      words = count-passed n hn .1;
+    }

@@ -1,0 +1,29 @@
+// What a call answers: the numbers that the agent sees, and a function for each row of their table.
+mod range;
+pub mod table;
+
+// 0 is an accepted call. 9 to 21 belong to later calls.
+pub const WIDTH: u32 = 1;
+
+pub const KEPT: u32 = 2;
+
+pub const COUNT: u32 = 3;
+
+pub const LONG: u32 = 4;
+
+pub const KEY: u32 = 5;
+
+pub const TRAY: u32 = 6;
+
+pub const WORD: u32 = 7;
+
+pub const STATE: u32 = 8;
+
+pub const MATCH: u32 = 100;
+
+pub const NO_MATCH: u32 = 101;
+
+// The most message words of a digest or a stream, and the most words of a stretch.
+pub const MOST_MESSAGE: usize = 65_536;
+
+pub const MOST_STRETCH: usize = 65_544;

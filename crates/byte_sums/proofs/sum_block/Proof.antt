@@ -1,0 +1,19 @@
+-- `byte_sums::sum_block` meets its contract.
+use borrow.Author.Needs.{needs}
+use Rattle.byte_sums.proofs.sum_block.Statement.{statement}
+use Rattle.byte_sums.proofs.sum_block.Tie as tie
+
+decode-requires : tie.Need-decode-requires
+decode-requires c κs = search needs
+
+add-sums-requires : tie.Need-add-sums-requires
+add-sums-requires c κs = search needs
+
+same-length : tie.Need-same-length
+same-length c = search needs
+
+returns : tie.Need-returns
+returns c = cc
+
+pub sum-block-spec : {M : Type 1} → statement M
+sum-block-spec = tie.close (tie.spec decode-requires add-sums-requires same-length returns)

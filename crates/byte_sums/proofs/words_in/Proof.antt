@@ -1,0 +1,63 @@
+-- `byte_sums::words_in` meets its contract: a word that is not full counts as one.
+use mathlib.Core.Path.{_≡_, sym, _∙_}
+use mathlib.Core.Bool.{true, false}
+use Prim.Native.Nat.{_/_}
+use native.Mathlib.Nat.{div-mul-le-self, le-mul-of-pos-right}
+use native.Mathlib.Omega.{arith}
+use Rattle.answers.specs.Table.{badByteWidth}
+use Rattle.byte_sums.proofs.FromBytes.{byte-width, words-elsewhere, words-count, count-more, count-exact}
+use borrow.Author.Needs.{needs}
+use Rattle.byte_sums.proofs.words_in.Statement.{statement}
+use Rattle.byte_sums.proofs.words_in.Tie as tie
+
+bad-byte-width-requires : tie.Need-bad-byte-width-requires
+bad-byte-width-requires c κs = search needs
+
+returns : tie.Need-returns
+returns c =
+    let a = c .before .before .args in
+    sym (words-elsewhere (a .w) (cc) (a .bytes))
+
+cast-c : tie.Need-cast-c
+cast-c c = search needs
+
+div-full : tie.Need-div-full
+div-full c =
+    let size = byte-width (c .before .before .args .w) (cc) in
+    omega arith
+
+mul-if2 : tie.Need-mul-if2
+mul-if2 c =
+    let a = c .before .before .args in
+    omega (arith, div-mul-le-self (a .bytes) (a .w / 8))
+
+add-result : tie.Need-add-result
+add-result c =
+    let a = c .before .before .before .args in
+    let size = byte-width (a .w) (cc) in
+    omega (arith, le-mul-of-pos-right (a .bytes / (a .w / 8)) (size .1 .0))
+
+returns-2 : tie.Need-returns-2
+returns-2 c =
+    let a = c .before .before .before .args in
+    let good : badByteWidth (a .w) ≡ false = cc in
+    sym (words-count (a .w) good (a .bytes) ∙ count-more (a .bytes) (a .w / 8) (byte-width (a .w) good .1 .0) (c .if2 .taken))
+
+returns-3 : tie.Need-returns-3
+returns-3 c =
+    let a = c .before .before .before .args in
+    let good : badByteWidth (a .w) ≡ false = cc in
+    sym (words-count (a .w) good (a .bytes) ∙ count-exact (a .bytes) (a .w / 8) (byte-width (a .w) good .1 .0) (c .if2 .left))
+
+pub words-in-spec : {M : Type 1} → statement M
+words-in-spec =
+    tie.close
+    (tie.spec
+    bad-byte-width-requires
+    returns
+    cast-c
+    div-full
+    mul-if2
+    add-result
+    returns-2
+    returns-3)

@@ -1,0 +1,45 @@
+-- A message of bytes as words (document 01, "Bytes"). A word of width 8, 16 or 32 has 1, 2 or 4 bytes.
+use mathlib.Core.Bool.{cond}
+use mathlib.Core.Logic.{_≢_}
+use mathlib.Core.List.{List, [], _∷_}
+use Prim.Native.Nat.{ℕ, zero, suc, _+_, _*_, _-_, _/_, _≤_}
+use lib.ListN.{length, getD, drop, replicate}
+use Rattle.answers.specs.Table.{badByteWidth}
+use Rattle.sums.specs.Sums.{leafSums}
+
+-- "the first byte lowest": the number of the first c bytes. A byte past the end counts as 0, so that a last word is filled up with zero bytes
+unfoldable pub littleEndian : ℕ → List ℕ → ℕ
+littleEndian zero xs = 0
+littleEndian (suc c) xs = getD xs 0 0 + 256 * littleEndian c (drop 1 xs)
+
+-- t words of c bytes
+unfoldable pub wordsFrom : ℕ → ℕ → List ℕ → List ℕ
+wordsFrom c zero xs = []
+wordsFrom c (suc t) xs = littleEndian c xs ∷ wordsFrom c t (drop c xs)
+
+-- how many words of c bytes so many bytes fill, the last perhaps not full; none for no bytes
+unfoldable pub countOf : ℕ → ℕ → ℕ
+countOf c bytes = (bytes + (c - 1)) / c
+
+abbrev pub wordCount : ℕ → List ℕ → ℕ
+wordCount c xs = countOf c (length xs)
+
+-- 01, "Bytes": the words of these bytes at width w
+unfoldable pub wordsOf : ℕ → List ℕ → List ℕ
+wordsOf w xs = wordsFrom (w / 8) (wordCount (w / 8) xs) xs
+
+-- how many words of a byte width so many bytes fill, and 0 at any other width
+unfoldable pub wordsIn : ℕ → ℕ → ℕ
+wordsIn w bytes = cond (badByteWidth w) 0 (countOf (w / 8) bytes)
+
+-- the bytes in a word of a byte width
+abbrev pub Size : ℕ → Type 0
+Size c = (1 ≤ c) × (c ≤ 4) × (c ≢ 3)
+
+-- what t words of c bytes add to eight sums that are zero
+abbrev pub sumsFrom : ℕ → ℕ → ℕ → ℕ → List ℕ → List ℕ → List ℕ
+sumsFrom w n c t xs ks = leafSums w n (wordsFrom c t xs) ks (replicate 8 0)
+
+-- what the code's n sums of bytes are: those of the words at a byte width, and zeros at any other
+unfoldable pub leafBytes : ℕ → ℕ → List ℕ → List ℕ → List ℕ
+leafBytes w n xs ks = cond (badByteWidth w) (replicate 8 0) (leafSums w n (wordsOf w xs) ks (replicate 8 0))

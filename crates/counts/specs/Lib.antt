@@ -1,0 +1,4 @@
+pub mod Digest
+pub mod Count
+pub mod Claims
+pub mod Corollaries

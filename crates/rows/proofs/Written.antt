@@ -1,0 +1,74 @@
+-- Laws of a row that is written from its front: the start, one place more, the end.
+use mathlib.Core.Path.{_≡_, refl, sym, ap, ap₂, _∙_}
+use mathlib.Core.List.{List, [], _∷_, _++_, append-nil}
+use Prim.Native.Nat.{ℕ, zero, suc, _+_, min, _≤_, _<_}
+use native.Mathlib.Numerals.{add-one}
+use native.Mathlib.Nat.{le-of-eq}
+use native.Mathlib.Decide.{decLe}
+use native.Mathlib.Omega.{arith}
+use lib.ListN.{length, getD, set, take, drop, length-append, length-drop, drop-of-length-le}
+use lib.Seq.{drop-cons, set-at, append-snoc, take-suc, take-all}
+use Rattle.rows.specs.Written.{table, written, over}
+
+pub length-table : (f : ℕ → ℕ) (n : ℕ) → length (table f n) ≡ n
+unfolding table
+length-table f zero = refl
+length-table f (suc n) = rw (length-append (table f n) (f n ∷ []), length-table f n, add-one)
+
+-- words that are given one by one
+pub table-same : (f g : ℕ → ℕ) (n : ℕ) → ((i : ℕ) → i < n → f i ≡ g i) → table f n ≡ table g n
+unfolding table
+table-same f g zero e = refl
+table-same f g (suc n) e = ap₂ (λ (l : List ℕ) (x : ℕ). l ++ (x ∷ [])) (table-same f g n (λ i lt. e i (omega arith))) (e n (omega arith))
+
+-- the words of a list, one by one
+pub table-take : (words : List ℕ) (n : ℕ) → n ≤ length words → table (λ i. getD words i 0) n ≡ take n words
+unfolding table
+table-take words zero le = refl
+table-take words (suc n) le = ap (λ (l : List ℕ). l ++ (getD words n 0 ∷ [])) (table-take words n (omega arith)) ∙ sym (take-suc words n 0 le)
+
+pub table-all : (words : List ℕ) (n : ℕ) → length words ≡ n → table (λ i. getD words i 0) n ≡ words
+table-all words n e = table-take words n (le-of-eq (sym e)) ∙ take-all n words (le-of-eq e)
+
+module _ (f : ℕ → ℕ) (old : List ℕ) where
+  pub written-none : old ≡ written f 0 old
+  unfolding table
+  written-none = refl
+
+  pub written-length : (i : ℕ) → i ≤ length old → length (written f i old) ≡ length old
+  written-length i le = length-append (table f i) (drop i old) ∙ omega (arith, length-table f i, length-drop i old)
+
+  pub written-next : (i : ℕ) → i < length old → set (written f i old) i (f i) ≡ written f (i + 1) old
+  unfolding table
+  written-next i h =
+      rw (drop-cons old i 0, set-at (table f i) (getD old i 0) (drop (suc i) old) (f i) i (length-table f i), add-one i) (sym (append-snoc (table f i) (f i) (drop (suc i) old)))
+
+  -- the place that a loop's turn writes, and the row's length, from the invariant
+  pub written-step : (row : List ℕ) (i v : ℕ) → i < length old → v ≡ f i → row ≡ written f i old → set row i v ≡ written f (i + 1) old
+  written-step row i v lt e h = ap₂ (λ (l : List ℕ) (x : ℕ). set l i x) h e ∙ written-next i lt
+
+  pub written-long : (row : List ℕ) (i : ℕ) → i ≤ length old → row ≡ written f i old → length row ≡ length old
+  written-long row i le h = ap length h ∙ written-length i le
+
+  pub written-all : (i : ℕ) → length old ≡ i → written f i old ≡ table f i
+  written-all i e = rw (drop-of-length-le old {i = i} (omega arith)) (append-nil (table f i))
+
+-- words that all have a place
+pub over-fits : (words old : List ℕ) → length words ≤ length old → over words old ≡ words ++ drop (length words) old
+unfolding over
+over-fits words old le = ap (λ (l : List ℕ). l ++ drop (length words) old) (take-all (length old) words le)
+
+-- a row into which as many words as have a place are written, one by one
+pub over-written : (words old : List ℕ) (i : ℕ) → i ≡ min (length words) (length old) → written (λ j. getD words j 0) i old ≡ over words old
+unfolding over
+over-written words old i e = go (decLe (length words) (length old))
+  where
+    go : Dec (length words ≤ length old) → written (λ j. getD words j 0) i old ≡ over words old
+    go (yes le) =
+        let all : length words ≡ i = omega arith in
+        ap₂ (λ (l r : List ℕ). l ++ r) (table-all words i all ∙ sym (take-all (length old) words le)) (ap (λ (n : ℕ). drop n old) (sym all))
+    go (no gt) =
+        let all : length old ≡ i = omega arith in
+        ap₂ (λ (l r : List ℕ). l ++ r)
+        (table-take words i (omega arith) ∙ ap (λ (n : ℕ). take n words) (sym all))
+        (drop-of-length-le old {i = i} (omega arith) ∙ sym (drop-of-length-le old {i = length words} (omega arith)))
