@@ -34,7 +34,7 @@ std::mt19937 after(std::uint32_t seed, std::uint64_t outputs) {
     return g;
 }
 
-// The state's words after the given number of refills. Each is used up there, so that the library shows it whole.
+// The state words after the given number of refills, read where all are used up: there the library shows them whole.
 Words words(std::uint32_t seed, std::uint64_t refills) {
     std::stringstream text;
     text << after(seed, refills * size);
@@ -62,7 +62,7 @@ void print_refused(std::uint32_t seed, std::uint64_t refills, std::uint64_t at) 
     print_next(at, state, 0, at, words(seed, refills));
 }
 
-// A position from 0 to 624. The one before the first refill is 624.
+// A position from 0 to 624; before the first refill only 624.
 void print_accepted(std::uint32_t seed, std::uint64_t refills, std::uint64_t at) {
     const std::uint64_t before = refills * size + at - size;
     const bool refill = at == size;

@@ -49,7 +49,8 @@ check_list
 rt fmt --check
 run rt-ci "$last_line" rt ci
 
-# Each Rust test file is a program of its own: independent implementations, compared with what the proved programs write.
+# Each Rust test file is a program of its own: independent implementations, compared with what the proved programs write,
+# and the check of docs/CLAIMS.md.
 mkdir -p target/tests
 for source in tests/*.rs; do
     name=$(basename "$source" .rs)

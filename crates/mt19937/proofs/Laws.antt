@@ -8,7 +8,6 @@ use borrow.Author.Tests.{le-leb, lt-leb, eq-eqb, ne-eqb}
 use Rattle.answers.specs.Answers.{firstOf}
 use Rattle.mt19937.specs.Published.{steps, generator, refill, ready, taken, nextAnswer, nextOf}
 use Rattle.mt19937.specs.declared.Generator.{Generator}
-use Rattle.mt19937.specs.declared.Next.{Next}
 
 -- the first run of steps starts at the words themselves
 pub steps-none : (f : ℕ → List ℕ → List ℕ) (ws : List ℕ) → ws ≡ steps f 0 ws

@@ -1,14 +1,13 @@
 -- Rows of key words: one row after another, and the block that one filled state gives.
 use Prim.Native.Nat.{ℕ, zero, suc, _+_, _-_, _≤_, _<_, min}
 use mathlib.Core.Path.{_≡_, refl, sym, ap, _∙_}
-use mathlib.Core.List.{List, [], _∷_, _++_, append-assoc, append-nil}
-use native.Mathlib.Nat.{zero-add, suc-add, add-zero, add-assoc}
+use mathlib.Core.List.{List, _∷_, _++_, append-assoc, append-nil}
+use native.Mathlib.Nat.{zero-add, suc-add, add-zero}
 use native.Mathlib.Numerals.{add-one}
 use native.Mathlib.Omega.{arith}
 use lib.ListN.{length, take, drop, length-append, length-take, length-drop}
 use lib.Seq.{take-at, take-all, length-take-le, drop-length}
 use Rattle.rows.specs.Written.{table}
-use Rattle.rows.proofs.Written.{length-table}
 use Rattle.mt19937.specs.Published.{generator, ready, taken, nextOf}
 use Rattle.mt19937.specs.Stretch.{outputs, after, keyWord, keyFrom, keyRow}
 use Rattle.mt19937.specs.declared.Generator.{Generator}

@@ -1,18 +1,26 @@
 // Refusals of every kind, and what they leave.
+ghost use Prim.Native.Nat.{_≤_};
 use crate::printing;
 use stream::Stream;
+
+const PAIR: [u32; 9] = [10, 255, 0, 0, 0, 0, 0, 0, 0];
+
+const ROW: [u32; 9] = [1, 2, 3, 4, 5, 6, 7, 8, 9];
 
 const KEYS: [u32; 8] = [10, 20, 0, 0, 0, 0, 0, 0];
 
 const SUMS: [u32; 8] = [255, 1, 0, 0, 0, 0, 0, 0];
 
-fn open(w: u32, b: u32, n: u32, key: &[u32]) {
-    let opened = Stream::open(w, b, n, key);
+// An opening with the first words of a row.
+fn open(w: u32, b: u32, n: u32, key: [u32; 9], words: usize)
+    requires { ⌜ words ≤ 9 ⌝ }
+{
+    let opened = Stream::open(w, b, n, &key[0..words]);
     printing::text(b"open");
     printing::answer(w);
     printing::answer(b);
     printing::answer(n);
-    printing::decimal(key.len());
+    printing::decimal(words);
     printing::text(b" :");
     printing::answer(opened.answer);
     printing::state(opened.state);
@@ -20,34 +28,34 @@ fn open(w: u32, b: u32, n: u32, key: &[u32]) {
 
 // Settings outside their ranges, and just inside.
 pub(crate) fn opening_settings() {
-    let pair = [10, 255];
-    open(8, 8, 2, &pair);
-    open(0, 8, 2, &pair);
-    open(33, 8, 2, &pair);
-    open(0, 0, 0, &[]);
-    open(8, 0, 2, &pair);
-    open(8, 9, 2, &pair);
-    open(8, 9, 9, &pair);
-    open(8, 8, 0, &[]);
-    open(8, 8, 9, &[1, 2, 3, 4, 5, 6, 7, 8, 9]);
+    open(8, 8, 2, PAIR, 2);
+    open(0, 8, 2, PAIR, 2);
+    open(33, 8, 2, PAIR, 2);
+    open(0, 0, 0, PAIR, 0);
+    open(8, 0, 2, PAIR, 2);
+    open(8, 9, 2, PAIR, 2);
+    open(8, 9, 9, PAIR, 2);
+    open(8, 8, 0, PAIR, 0);
+    open(8, 8, 9, ROW, 9);
 }
 
 // Keys of the wrong length, and words too large.
 pub(crate) fn opening_keys() {
-    let pair = [10, 255];
-    open(8, 8, 8, &[1, 2, 3, 4, 5, 6, 7, 8]);
-    open(8, 8, 3, &pair);
-    open(8, 8, 1, &pair);
-    open(8, 8, 1, &[256, 256]);
-    open(8, 8, 2, &[10, 256]);
-    open(8, 8, 2, &[0xffffffff, 0]);
-    open(1, 1, 1, &[1]);
-    open(1, 1, 1, &[2]);
-    open(32, 32, 1, &[0xffffffff]);
+    open(8, 8, 8, ROW, 8);
+    open(8, 8, 3, PAIR, 2);
+    open(8, 8, 1, PAIR, 2);
+    open(8, 8, 1, [256, 256, 0, 0, 0, 0, 0, 0, 0], 2);
+    open(8, 8, 2, [10, 256, 0, 0, 0, 0, 0, 0, 0], 2);
+    open(8, 8, 2, [0xffffffff, 0, 0, 0, 0, 0, 0, 0, 0], 2);
+    open(1, 1, 1, ROW, 1);
+    open(1, 1, 1, [2, 0, 0, 0, 0, 0, 0, 0, 0], 1);
+    open(32, 32, 1, [0xffffffff, 0, 0, 0, 0, 0, 0, 0, 0], 1);
 }
 
-// A fit state that no opening gave, with a count of its own.
-fn push(taken: u32, message: &[u32], key: &[u32]) {
+// A push of the first words of two rows to a fit state that no opening gave, with a count of its own.
+fn push(taken: u32, message: [u32; 2], words: usize, key: [u32; 2], keys: usize)
+    requires { ⌜ (words ≤ 2) × (keys ≤ 2) ⌝ }
+{
     let s = Stream {
         width: 8,
         kept: 4,
@@ -56,35 +64,35 @@ fn push(taken: u32, message: &[u32], key: &[u32]) {
         keys: KEYS,
         sums: SUMS,
     };
-    let pushed = s.push(message, key);
+    let pushed = s.push(&message[0..words], &key[0..keys]);
     printing::text(b"push");
     printing::answer(taken);
-    printing::decimal(message.len());
-    printing::decimal(key.len());
+    printing::decimal(words);
+    printing::decimal(keys);
     printing::text(b" :");
     printing::answer(pushed.answer);
     printing::state(pushed.state);
 }
 
 pub(crate) fn pushes() {
-    push(0, &[], &[]);
-    push(0, &[3], &[100]);
-    push(0, &[255], &[255]);
-    push(3, &[256], &[100]);
-    push(3, &[3], &[256]);
-    push(3, &[3], &[]);
-    push(3, &[], &[256]);
-    push(3, &[3, 256], &[100]);
+    push(0, [0, 0], 0, [0, 0], 0);
+    push(0, [3, 0], 1, [100, 0], 1);
+    push(0, [255, 0], 1, [255, 0], 1);
+    push(3, [256, 0], 1, [100, 0], 1);
+    push(3, [3, 0], 1, [256, 0], 1);
+    push(3, [3, 0], 1, [0, 0], 0);
+    push(3, [0, 0], 0, [256, 0], 1);
+    push(3, [3, 256], 2, [100, 0], 1);
 }
 
 // Up to the last word that a stream takes, and past it.
 pub(crate) fn long_pushes() {
-    push(65536, &[], &[]);
-    push(65535, &[3], &[100]);
-    push(65536, &[3], &[100]);
-    push(65535, &[3, 256], &[100]);
-    push(65536, &[3], &[]);
-    push(65534, &[3, 7], &[100, 250]);
+    push(65536, [0, 0], 0, [0, 0], 0);
+    push(65535, [3, 0], 1, [100, 0], 1);
+    push(65536, [3, 0], 1, [100, 0], 1);
+    push(65535, [3, 256], 2, [100, 0], 1);
+    push(65536, [3, 0], 1, [0, 0], 0);
+    push(65534, [3, 7], 2, [100, 250], 2);
 }
 
 fn read(s: Stream, out: &mut [u32]) {

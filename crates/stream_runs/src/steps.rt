@@ -70,7 +70,13 @@ fn offer(run: Run, seed: u32, row: &[u32], words: u32, keys: u32) -> Run
         sum: run.sum,
         long: run.long,
     };
-    answered(after, b'p', [before.taken, words, keys, 0], row, pushed.answer)
+    answered(
+        after,
+        b'p',
+        [before.taken, words, keys, 0],
+        row,
+        pushed.answer,
+    )
 }
 
 // A reading into up to twelve places.

@@ -1,8 +1,6 @@
 -- `make_ready` meets its contract, by whether the position is 624.
-use mathlib.Core.Path.{_∙_}
 use native.Mathlib.Omega.{arith}
 use borrow.Author.Needs.{needs}
-use Rattle.mt19937.specs.Published.{generator}
 use Rattle.mt19937.proofs.Laws.{ready-used, ready-within}
 use Rattle.mt19937.proofs.make_ready.Statement.{statement}
 use Rattle.mt19937.proofs.make_ready.Tie as tie
