@@ -1,15 +1,15 @@
--- The range test of words by the bits that stand in some word, and parts of a row that fits.
-use mathlib.Core.Path.{_≡_, refl, sym, ap, ap₂, _∙_}
-use mathlib.Core.Bool.{Bool, true, false, _&&_, and-true, and-assoc, true≢false}
-use mathlib.Core.List.{List, [], _∷_, _++_}
-use Prim.Native.Nat.{ℕ, zero, suc, _+_, _^_, _≤_, _<_}
+-- The range test of words by the bits that stand in some word.
+use mathlib.Core.Path.{_≡_, sym, ap, _∙_}
+use mathlib.Core.Bool.{Bool, _&&_, and-true, and-assoc}
+use mathlib.Core.List.{List, [], _∷_}
+use Prim.Native.Nat.{ℕ, _+_, _^_, _≤_, _<_}
 use native.Mathlib.Decide.{decLt}
 use native.Mathlib.Numerals.{add-one}
 use native.Mathlib.Omega.{arith}
 use lib.Bits.{bitOr, or-lt, or-add-and, and-le-l, and-le-r}
 use lib.Dec.{ltb}
 use lib.Pow.{pow-pos}
-use lib.ListN.{length, getD, take, drop, replicate, take-append-drop, drop-of-length-le}
+use lib.ListN.{length, getD, drop, drop-of-length-le}
 use lib.Seq.{drop-cons, take-all}
 use borrow.Author.Tests.{lt-ltb, le-ltb}
 use Rattle.counts.specs.Digest.{fits}
@@ -57,25 +57,6 @@ joining-step ws bits i lt h =
 pub joining-end : (ws : List ℕ) (bits i : ℕ) → length ws ≤ i → Joining ws bits i → bits ≡ joined 0 ws
 unfolding joined
 joining-end ws bits i le h = ap (joined bits) (sym (drop-of-length-le ws le)) ∙ h
-
--- both of two tests
-pub both : (a b : Bool) → (a && b) ≡ true → (a ≡ true) × (b ≡ true)
-both true b e = (refl, e)
-both false b e = absurd (true≢false (sym e))
-
-pub fits-append : (w : ℕ) (a b : List ℕ) → fits w (a ++ b) ≡ (fits w a && fits w b)
-unfolding fits
-fits-append w [] b = refl
-fits-append w (x ∷ a) b = ap (λ (t : Bool). ltb x (2 ^ w) && t) (fits-append w a b) ∙ sym (and-assoc (ltb x (2 ^ w)) (fits w a) (fits w b))
-
--- parts of a row that fits
-pub fits-parts : (w n : ℕ) (xs : List ℕ) → fits w xs ≡ true → (fits w (take n xs) ≡ true) × (fits w (drop n xs) ≡ true)
-fits-parts w n xs h = both (fits w (take n xs)) (fits w (drop n xs)) (sym (fits-append w (take n xs) (drop n xs)) ∙ ap (fits w) (take-append-drop n xs) ∙ h)
-
-pub fits-zeros : (w n : ℕ) → fits w (replicate n 0) ≡ true
-unfolding fits
-fits-zeros w zero = refl
-fits-zeros w (suc n) = rw (lt-ltb 0 (2 ^ w) (pow-pos w)) (fits-zeros w n)
 
 -- a row with no unused place
 pub fit-row-whole : (w n : ℕ) (row : List ℕ) → length row ≤ n → fitRow w n row ≡ fits w row

@@ -1,8 +1,8 @@
 -- The first test that holds gives the answer: it stops, or it passes. What a test that passes says of the call.
-use mathlib.Core.Path.{_≡_, refl, sym, ap, _∙_}
-use mathlib.Core.Bool.{Bool, true, false, not, _&&_, _||_, true≢false}
+use mathlib.Core.Path.{_≡_, refl, sym, ap, subst, _∙_}
+use mathlib.Core.Bool.{Bool, true, false, not, _||_, true≢false}
 use mathlib.Core.List.{List, [], _∷_}
-use Prim.Native.Nat.{ℕ, suc, _+_, _≤_, _<_}
+use Prim.Native.Nat.{ℕ, suc, _≤_}
 use native.Mathlib.Omega.{arith}
 use native.Mathlib.Decide.{ℕ-discrete}
 use lib.Dec.{ltb, eqb}
@@ -10,8 +10,8 @@ use borrow.Author.Tests.{le-ltb, eq-eqb, ne-eqb, ltb-false, eqb-true, eqb-false,
 use Rattle.counts.specs.Digest.{fits}
 use Rattle.counts.specs.Corollaries.{InRange}
 use Rattle.answers.specs.Answers.{Test, test, firstOf, noneOf}
-use Rattle.answers.specs.Table.{badWidth, badByteWidth, badKept, badCount, tooLong, badKey, smallTray, badRows, badWords, widthTest, keptTest, countTest}
-use Rattle.answers.proofs.Fits.{both}
+use Rattle.answers.specs.Table.{badWidth, badByteWidth, badKept, badCount, tooLong, badKey, smallTray, badRows, badWords}
+use Rattle.counts.proofs.Fits.{both}
 
 -- r is what the row's function answers, x what the tests after it give
 module _ (n : ℕ) (ts : List Test) (a : ℕ) {h r : Bool} where
@@ -66,6 +66,17 @@ module _ (w : ℕ) where
   pub width-passes : 1 ≤ w → w ≤ 32 → badWidth w ≡ false
   unfolding badWidth
   width-passes h k = rw (le-ltb w 1 h, le-ltb 32 w k)
+
+  -- what holds of each of the three widths that bytes fill holds of a width that passes
+  pub byte-width-passed : badByteWidth w ≡ false → (P : ℕ → Type 0) → P 8 → P 16 → P 32 → P w
+  unfolding badByteWidth
+  byte-width-passed e P at8 at16 at32 = go (ℕ-discrete w 8) (ℕ-discrete w 16) (ℕ-discrete w 32)
+    where
+      go : Dec (w ≡ 8) → Dec (w ≡ 16) → Dec (w ≡ 32) → P w
+      go (yes p) q r = subst P (sym p) at8
+      go (no p) (yes q) r = subst P (sym q) at16
+      go (no p) (no q) (yes r) = subst P (sym r) at32
+      go (no p) (no q) (no r) = absurd (true≢false (sym (rw (ne-eqb w 8 p, ne-eqb w 16 q, ne-eqb w 32 r)) ∙ e))
 
   module _ (b : ℕ) where
     pub kept-passed : badKept w b ≡ false → (1 ≤ b) × (b ≤ w)

@@ -1,3 +1,4 @@
 pub mod Fits
 pub mod Judged
 pub mod Rows
+pub mod States

@@ -1,10 +1,10 @@
 -- The rows of document 01's table "Numbers the agent sees": for each the condition, and the test with its number.
 -- A call's answer lists its tests in the order in which the document has them tested. 9 to 21 belong to later calls.
 use mathlib.Core.Bool.{Bool, not, _&&_, _||_}
-use mathlib.Core.List.{List}
+use mathlib.Core.List.{List, _++_}
 use Prim.Native.Nat.{ℕ}
 use lib.Dec.{ltb, eqb}
-use lib.ListN.{take, drop}
+use lib.ListN.{length, take, drop, replicate}
 use Rattle.counts.specs.Digest.{fits}
 use Rattle.answers.specs.Answers.{Test, test}
 
@@ -83,3 +83,7 @@ stateTest fit = test 8 (not fit)
 -- 8 State, a row of a state: n words below 2^w, and every unused place zero, the only number below 2^0
 unfoldable pub fitRow : ℕ → ℕ → List ℕ → Bool
 fitRow w n row = fits w (take n row) && fits 0 (drop n row)
+
+-- 01, "Stream", "Unused places are zero": a row of a state, eight places with the words first
+unfoldable pub padded : List ℕ → List ℕ
+padded words = words ++ drop (length words) (replicate 8 0)

@@ -10,3 +10,4 @@ pub mod Words
 pub mod Demand3
 pub mod Corollaries
 pub mod Laws
+pub mod Fits

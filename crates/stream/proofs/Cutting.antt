@@ -10,17 +10,18 @@ use lib.ListN.{length, take, replicate, length-append, length-replicate}
 use lib.Seq.{length-take-le}
 use Rattle.counts.specs.Digest.{fits, fullWords, kept, digest}
 use Rattle.answers.specs.Answers.{firstOf, afterwards}
-use Rattle.answers.proofs.Fits.{both, fits-append, fits-parts, fits-zeros}
+use Rattle.counts.proofs.Fits.{both, fits-append, fits-parts, fits-zeros}
 use Rattle.answers.proofs.Judged.{width-passes, kept-passes, count-passes, long-passes, key-passes, words-pass}
 use Rattle.sums.specs.Sums.{addSums}
 use Rattle.sums.proofs.Each.{sums-zero, length-full}
 use Rattle.digest.specs.Words.{digestAnswer, digestRow}
 use Rattle.stream.specs.declared.Stream.{Stream}
-use Rattle.stream.specs.State.{padded, heldKeys, heldSums, lastWords, pushed, opened}
+use Rattle.answers.specs.Table.{padded}
+use Rattle.stream.specs.State.{heldKeys, heldSums, lastWords, pushed, opened}
 use Rattle.stream.specs.Calls.{openAnswer, openState, pushAnswer, pushState, readAnswer, reading, readRow}
 use Rattle.stream.specs.Cutting.{Part, messageOf, keyOf, afterParts, partAnswers, FitPart, FitParts, wholeState, Whole, EveryCutting, EmptyPush, EveryState}
-use Rattle.stream.proofs.Judged.{fit, fit-state, Takes, taken, Opens, opens, new-state}
-use Rattle.stream.proofs.Padded.{same-zeros, zeros-row, padded-length, padded-held, padded-row}
+use Rattle.stream.proofs.Judged.{fit, fit-state, Takes, taken, Opens, opens}
+use Rattle.answers.proofs.States.{new-state, same-zeros, zeros-row, padded-length, padded-held, padded-row}
 use Rattle.stream.proofs.Pushes.{Good, pushed-good, pushed-none, pushed-twice}
 
 -- the parts' words, all together, are a fit part

@@ -1,19 +1,16 @@
 -- The held key words and the pushed ones: how they are joined, what the sums over the joint row give, and the last n of them.
 use mathlib.Core.Path.{_≡_, refl, sym, ap, ap₂, _∙_}
-use mathlib.Core.Bool.{cond}
-use mathlib.Core.List.{List, [], _∷_, _++_, append-assoc, append-nil}
-use Prim.Native.Nat.{ℕ, _+_, _-_, _%_, _^_, min, _≤_}
+use mathlib.Core.List.{List, [], _++_, append-assoc, append-nil}
+use Prim.Native.Nat.{ℕ, _+_, _-_, min, _≤_}
 use native.Mathlib.Decide.{decLe}
 use native.Mathlib.Omega.{arith}
-use lib.Dec.{leb}
 use lib.ListN.{length, take, drop, length-append, length-take, length-drop, take-append-drop, drop-of-length-le}
 use lib.Seq.{take-at, drop-at, take-all, drop-drop, drop-append-le, drop-append-add, length-take-le}
 use Rattle.rows.specs.Written.{over}
 use Rattle.rows.proofs.Written.{over-fits}
 use Rattle.rows.proofs.Parts.{part-to-end}
-use Rattle.counts.specs.Digest.{wholeSum}
-use Rattle.sums.specs.Sums.{addSums, leafSums}
-use Rattle.sums.proofs.Each.{sums-more, leaf-append}
+use Rattle.sums.specs.Sums.{leafSums}
+use Rattle.sums.proofs.Each.{sums-more, sums-still, leaf-same, leaf-append}
 use Rattle.stream.specs.State.{lastWords}
 
 -- a row whose first n places and then the next ones are written
@@ -61,17 +58,6 @@ module _ (n : ℕ) (held ks : List ℕ) (len : length held ≡ n) where
       ap₂ (λ (m : ℕ) (l : List ℕ). take m l) z (ap (drop (length ks)) e ∙ drop-append-le (length ks) (held ++ ks) after (omega (arith, length-append held ks)))
       ∙ take-at (drop (length ks) (held ++ ks)) after n (ap length (sym last-after) ∙ length-last)
       ∙ sym last-after
-
--- no message reads no key
-sums-still : (w : ℕ) (ks ks′ sums : List ℕ) → addSums w [] ks sums ≡ addSums w [] ks′ sums
-unfolding addSums wholeSum
-sums-still w ks ks′ [] = refl
-sums-still w ks ks′ (s ∷ sums) = ap (λ (l : List ℕ). (s + 0) % 2 ^ w ∷ l) (sums-still w (drop 1 ks) (drop 1 ks′) sums)
-
--- keys under which the code's sums agree
-leaf-same : (w n : ℕ) (ms ks ks′ sums : List ℕ) → addSums w ms ks (take n sums) ≡ addSums w ms ks′ (take n sums) → leafSums w n ms ks sums ≡ leafSums w n ms ks′ sums
-unfolding leafSums
-leaf-same w n ms ks ks′ sums e = ap (λ (l : List ℕ). cond (leb w 32) (l ++ drop n sums) sums) e
 
 -- the first words of a message over the held key words and as many pushed ones, joined, and the rest over the pushed key
 module _ (w n first : ℕ) (held ms ks : List ℕ) (len : length held ≡ n) (same : length ms ≡ length ks) (most : first ≡ min n (length ks)) where

@@ -1,44 +1,19 @@
--- What a fit state and an accepted call have passed; that such a state and such a push pass; and the state after a call.
-use mathlib.Core.Path.{_≡_, sym, _∙_}
-use mathlib.Core.Bool.{Bool, true, false, _&&_, cond}
-use mathlib.Core.List.{List, [], _∷_}
+-- What a fit state and an accepted call have passed, and that such a state and such a push pass.
+use mathlib.Core.Path.{_≡_}
+use mathlib.Core.Bool.{true}
+use mathlib.Core.List.{List, []}
 use Prim.Native.Nat.{ℕ, _+_, _≤_}
-use lib.Dec.{eqb}
 use lib.ListN.{length}
-use borrow.Author.Tests.{not-false, eq-eqb, ne-eqb}
+use borrow.Author.Tests.{not-false}
 use Rattle.counts.specs.Digest.{fits}
 use Rattle.counts.specs.Corollaries.{InRange}
-use Rattle.answers.specs.Answers.{Test, test, firstOf, noneOf}
+use Rattle.answers.specs.Answers.{firstOf, noneOf}
 use Rattle.answers.specs.Table.{fitRow}
-use Rattle.answers.proofs.Fits.{both}
+use Rattle.counts.proofs.Fits.{both}
 use Rattle.answers.proofs.Judged.{passed, none-passed, in-range, width-passes, kept-passes, count-passes, long-passed, long-passes, key-passed, key-passes, tray-passed, words-passed, words-pass}
 use Rattle.stream.specs.declared.Stream.{Stream}
 use Rattle.stream.specs.State.{fitState}
 use Rattle.stream.specs.Calls.{openAnswer, pushAnswer, readAnswer}
-
--- a state's tests one by one, as the code makes them: r is what a function answers, x what the tests after it give
-module _ (n : ℕ) (ts : List Test) (rows : Bool) {h r : Bool} where
-  pub unfit : r ≡ h → r ≡ true → false ≡ (noneOf (test n h ∷ ts) && rows)
-  unfolding noneOf
-  unfit e t = rw (sym e ∙ t)
-
-  pub fit-so-far : {x : Bool} → r ≡ h → r ≡ false → x ≡ (noneOf ts && rows) → x ≡ (noneOf (test n h ∷ ts) && rows)
-  unfolding noneOf
-  fit-so-far e t p = rw (sym e ∙ t) p
-
-pub fit-settings : {x rows : Bool} → x ≡ rows → x ≡ (noneOf [] && rows)
-unfolding noneOf
-fit-settings p = p
-
-module _ (w n : ℕ) (row : List ℕ) (rest : Bool) {r : Bool} where
-  pub unfit-row : r ≡ fitRow w n row → r ≡ false → false ≡ (fitRow w n row && rest)
-  unfit-row e t = rw (sym e ∙ t)
-
-  pub fit-one-row : {x : Bool} → r ≡ fitRow w n row → r ≡ true → x ≡ rest → x ≡ (fitRow w n row && rest)
-  fit-one-row e t p = rw (sym e ∙ t) p
-
--- for the search of a function that judges a state
-pub ruleset state-judged = (unfit, fit-so-far, fit-settings, unfit-row, fit-one-row)
 
 -- what a fit state has passed
 pub record Fit (s : Stream) : Type 0 where
@@ -138,18 +113,3 @@ reads s out e =
     let p₁ = passed 7 _ _ e in
     let p₂ = passed 5 _ _ (p₁ .1) in
     (fit s (not-false _ (p₁ .0)), tray-passed (s .n) (length out) (p₂ .0))
-
--- the state after a refusal, and after an accepted call
-pub old-state : (answer : ℕ) (new old : Stream) → (answer ≡ 0 → ⊥) → cond (eqb answer 0) new old ≡ old
-old-state answer new old ne = rw (ne-eqb answer 0 ne)
-
-pub new-state : (answer : ℕ) (new old : Stream) → answer ≡ 0 → cond (eqb answer 0) new old ≡ new
-new-state answer new old e = rw (eq-eqb answer 0 e)
-
--- r is the number that the call's tests gave
-module _ {answer r : ℕ} (new old : Stream) (judged : r ≡ answer) where
-  pub refused : (r ≡ 0 → ⊥) → (r ≡ answer) × (old ≡ cond (eqb answer 0) new old)
-  refused ne = (judged, sym (old-state answer new old (λ z. ne (judged ∙ z))))
-
-  pub accepted : (state : Stream) → r ≡ 0 → state ≡ new → (r ≡ answer) × (state ≡ cond (eqb answer 0) new old)
-  accepted state z made = (judged, made ∙ sym (new-state answer new old (sym judged ∙ z)))

@@ -1,5 +1,5 @@
 pub mod Judged
-pub mod Padded
+pub mod Made
 pub mod Joined
 pub mod Pushes
 pub mod Cutting

@@ -1,47 +1,28 @@
 -- Pushes on any fit state: the state stays fit, an empty push changes nothing, and two pushes are one of both parts.
-use mathlib.Core.Path.{_≡_, refl, sym, ap, ap₂, _∙_}
-use mathlib.Core.Bool.{Bool, true, _&&_}
-use mathlib.Core.List.{List, [], _∷_, _++_, append-assoc, append-nil}
-use Prim.Native.Nat.{ℕ, _+_, _%_, _^_, _≤_}
-use native.Mathlib.Nat.{add-zero, mod-lt, mod-eq-of-lt}
+use mathlib.Core.Path.{_≡_, sym, ap, ap₂, _∙_}
+use mathlib.Core.Bool.{Bool, _&&_}
+use mathlib.Core.List.{List, [], _++_, append-assoc, append-nil}
+use Prim.Native.Nat.{ℕ, _+_, _≤_}
+use native.Mathlib.Nat.{add-zero}
 use native.Mathlib.Omega.{arith}
-use borrow.Author.Tests.{ltb-true, lt-ltb}
-use lib.Dec.{ltb}
-use lib.Pow.{pow-pos}
 use lib.ListN.{length, drop, length-append, length-drop, take-append-drop}
 use lib.Seq.{drop-drop, drop-append-le}
-use Rattle.counts.specs.Digest.{fits, wholeSum}
-use Rattle.answers.proofs.Fits.{both, fits-append, fits-parts}
+use Rattle.counts.specs.Digest.{fits}
+use Rattle.counts.proofs.Fits.{fits-append, fits-parts}
 use Rattle.sums.specs.Sums.{addSums}
-use Rattle.sums.proofs.Each.{length-sums, sums-more, sums-append}
+use Rattle.sums.proofs.Each.{length-sums, sums-more, sums-append, sums-fit, sums-none}
 use Rattle.stream.specs.declared.Stream.{Stream}
-use Rattle.stream.specs.State.{padded, heldKeys, heldSums, lastWords, pushed}
+use Rattle.answers.specs.Table.{padded}
+use Rattle.stream.specs.State.{heldKeys, heldSums, lastWords, pushed}
 use Rattle.stream.proofs.Judged.{Fit, Takes}
 use Rattle.stream.proofs.Joined.{last-after, length-last}
-use Rattle.stream.proofs.Padded.{held-length, row-parts, padded-length, padded-held, padded-row, padded-over}
+use Rattle.answers.proofs.States.{held-length, row-parts, padded-length, padded-held, padded-row, padded-over}
 
 -- a fit state with its rows of eight places
 pub record Good (s : Stream) : Type 0 where
   pub fit : Fit s
   pub keys-eight : length (s .keys) ≡ 8
   pub sums-eight : length (s .sums) ≡ 8
-
--- sums that were added to fit
-sums-fit : (w : ℕ) (ms ks sums : List ℕ) → fits w (addSums w ms ks sums) ≡ true
-unfolding fits addSums
-sums-fit w ms ks [] = refl
-sums-fit w ms ks (s ∷ sums) =
-    rw (lt-ltb ((s + wholeSum w ms ks) % 2 ^ w) (2 ^ w) (mod-lt (s + wholeSum w ms ks) (pow-pos w))) (sums-fit w ms (drop 1 ks) sums)
-
--- no message adds nothing to sums that fit
-sums-none : (w : ℕ) (ks sums : List ℕ) → fits w sums ≡ true → addSums w [] ks sums ≡ sums
-unfolding fits addSums wholeSum
-sums-none w ks [] h = refl
-sums-none w ks (s ∷ sums) h =
-    let p = both (ltb s (2 ^ w)) (fits w sums) h in
-    ap₂ (λ (x : ℕ) (xs : List ℕ). x ∷ xs)
-    (ap (λ (x : ℕ). x % 2 ^ w) (add-zero s) ∙ mod-eq-of-lt (ltb-true s (2 ^ w) (p .0)))
-    (sums-none w (drop 1 ks) sums (p .1))
 
 same-state : (s : Stream) {t t′ : ℕ} {ks ks′ sums sums′ : List ℕ} → t ≡ t′ → ks ≡ ks′ → sums ≡ sums′
     → _≡_ {A = Stream} (record { width = s .width; kept = s .kept; n = s .n; taken = t; keys = ks; sums = sums })

@@ -7,7 +7,8 @@ use lib.ListN.{length, replicate}
 use Rattle.counts.specs.Digest.{fits, fullWords, digest}
 use Rattle.digest.specs.Words.{digestAnswer, digestRow}
 use Rattle.stream.specs.declared.Stream.{Stream}
-use Rattle.stream.specs.State.{padded, fitState, lastWords, pushed}
+use Rattle.answers.specs.Table.{padded}
+use Rattle.stream.specs.State.{fitState, lastWords, pushed}
 use Rattle.stream.specs.Calls.{openAnswer, openState, pushAnswer, pushState, readAnswer, reading, readRow}
 
 -- 01, "Stream": what one push gives

@@ -4,13 +4,9 @@ use mathlib.Core.List.{List, [], _∷_, _++_}
 use Prim.Native.Nat.{ℕ, _+_, _-_}
 use lib.ListN.{length, take, drop, replicate}
 use Rattle.answers.specs.Answers.{noneOf}
-use Rattle.answers.specs.Table.{widthTest, keptTest, countTest, longTest, fitRow}
+use Rattle.answers.specs.Table.{widthTest, keptTest, countTest, longTest, fitRow, padded}
 use Rattle.sums.specs.Sums.{addSums}
 use Rattle.stream.specs.declared.Stream.{Stream}
-
--- 01, "Stream", "Unused places are zero": a row of eight places, the words first
-unfoldable pub padded : List ℕ → List ℕ
-padded words = words ++ drop (length words) (replicate 8 0)
 
 -- 01, "Stream": the last n key words and the n full-width sums that a state holds
 abbrev pub heldKeys : Stream → List ℕ

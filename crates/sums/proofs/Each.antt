@@ -1,17 +1,21 @@
 -- n sums: their number, each of them, a message in two parts, key words that no sum reads, and the words that are kept of them.
 use mathlib.Core.Path.{_≡_, refl, sym, ap, ap₂, _∙_}
+use mathlib.Core.Bool.{true, cond}
 use mathlib.Core.List.{List, [], _∷_, _++_, append-nil, map}
-use Prim.Native.Nat.{ℕ, zero, suc, _+_, _-_, _%_, _^_, min, _≤_, _<_}
-use native.Mathlib.Nat.{zero-add, zero-mod, add-assoc, mod-add-mod, add-mod-mod}
+use Prim.Native.Nat.{ℕ, zero, suc, _+_, _%_, _^_, min, _≤_, _<_}
+use native.Mathlib.Nat.{zero-add, add-zero, zero-mod, add-assoc, mod-lt, mod-eq-of-lt, mod-add-mod, add-mod-mod}
 use native.Mathlib.Decide.{decLe}
 use native.Mathlib.Omega.{arith}
-use borrow.Author.Tests.{le-leb, lt-leb}
-use lib.ListN.{length, getD, take, drop, replicate, length-append, length-take, length-drop, drop-of-length-le, List·getD-map}
-use lib.Seq.{take-append-le, take-at, drop-at, take-all, drop-drop, length-take-le, getD-take}
-use Rattle.rows.specs.Written.{table, written, over}
+use borrow.Author.Tests.{le-leb, lt-leb, ltb-true, lt-ltb}
+use lib.Dec.{ltb, leb}
+use lib.Pow.{pow-pos}
+use lib.ListN.{length, getD, take, drop, replicate, length-take, drop-of-length-le, List·getD-map}
+use lib.Seq.{take-append-le, take-at, drop-at, take-all, drop-drop, getD-take}
+use Rattle.rows.specs.Written.{written, over}
 use Rattle.rows.proofs.Parts.{drop-one}
 use Rattle.rows.proofs.Written.{table-same, table-all, over-fits, over-written}
-use Rattle.counts.specs.Digest.{wholeSum, oneWord, fullWords, kept, digest}
+use Rattle.counts.specs.Digest.{fits, wholeSum, oneWord, fullWords, kept, digest}
+use Rattle.counts.proofs.Fits.{both}
 use Rattle.counts.proofs.Laws.{sum-append, sum-reads}
 use Rattle.sums.specs.Sums.{addSums, leafSums}
 use Rattle.sums.proofs.Apart.{reduced}
@@ -66,6 +70,29 @@ unfolding addSums fullWords oneWord
 sums-zero w zero ms ks = refl
 sums-zero w (suc n) ms ks = ap₂ (λ (x : ℕ) (xs : List ℕ). x % 2 ^ w ∷ xs) (zero-add (wholeSum w ms ks)) (sums-zero w n ms (drop 1 ks))
 
+-- sums that were added to fit
+pub sums-fit : (w : ℕ) (ms ks sums : List ℕ) → fits w (addSums w ms ks sums) ≡ true
+unfolding fits addSums
+sums-fit w ms ks [] = refl
+sums-fit w ms ks (s ∷ sums) =
+    rw (lt-ltb ((s + wholeSum w ms ks) % 2 ^ w) (2 ^ w) (mod-lt (s + wholeSum w ms ks) (pow-pos w))) (sums-fit w ms (drop 1 ks) sums)
+
+-- no message adds nothing to sums that fit
+pub sums-none : (w : ℕ) (ks sums : List ℕ) → fits w sums ≡ true → addSums w [] ks sums ≡ sums
+unfolding fits addSums wholeSum
+sums-none w ks [] h = refl
+sums-none w ks (s ∷ sums) h =
+    let p = both (ltb s (2 ^ w)) (fits w sums) h in
+    ap₂ (λ (x : ℕ) (xs : List ℕ). x ∷ xs)
+    (ap (λ (x : ℕ). x % 2 ^ w) (add-zero s) ∙ mod-eq-of-lt (ltb-true s (2 ^ w) (p .0)))
+    (sums-none w (drop 1 ks) sums (p .1))
+
+-- no message reads no key
+pub sums-still : (w : ℕ) (ks ks′ sums : List ℕ) → addSums w [] ks sums ≡ addSums w [] ks′ sums
+unfolding addSums wholeSum
+sums-still w ks ks′ [] = refl
+sums-still w ks ks′ (s ∷ sums) = ap (λ (l : List ℕ). (s + 0) % 2 ^ w ∷ l) (sums-still w (drop 1 ks) (drop 1 ks′) sums)
+
 -- a sum of full-width words may wrap at 32 bits before it is reduced
 pub add-wrapped : (w sum x : ℕ) → w ≤ 32 → (sum + x % 2 ^ w) % 2 ^ 32 % 2 ^ w ≡ (sum + x) % 2 ^ w
 add-wrapped w sum x le = reduced w 32 (sum + x % 2 ^ w) le ∙ add-mod-mod sum x (2 ^ w)
@@ -74,6 +101,11 @@ add-wrapped w sum x le = reduced w 32 (sum + x % 2 ^ w) le ∙ add-mod-mod sum x
 pub leaf-wide-sums : (w n : ℕ) (ms ks sums : List ℕ) → 32 < w → sums ≡ leafSums w n ms ks sums
 unfolding leafSums
 leaf-wide-sums w n ms ks sums gt = rw (lt-leb w 32 gt)
+
+-- keys under which the code's sums agree
+pub leaf-same : (w n : ℕ) (ms ks ks′ sums : List ℕ) → addSums w ms ks (take n sums) ≡ addSums w ms ks′ (take n sums) → leafSums w n ms ks sums ≡ leafSums w n ms ks′ sums
+unfolding leafSums
+leaf-same w n ms ks ks′ sums e = ap (λ (l : List ℕ). cond (leb w 32) (l ++ drop n sums) sums) e
 
 module _ (w n : ℕ) (le : w ≤ 32) where
   pub leaf-sums : (ms ks sums : List ℕ) → leafSums w n ms ks sums ≡ addSums w ms ks (take n sums) ++ drop n sums

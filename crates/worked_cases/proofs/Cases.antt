@@ -15,11 +15,11 @@ use Rattle.counts.specs.Corollaries.{RowTest}
 use Rattle.counts.proofs.Words.{both}
 use Rattle.counts.proofs.Corollaries.{row-test}
 use Rattle.answers.specs.Answers.{firstOf, noneOf, afterwards}
-use Rattle.answers.specs.Table.{badWidth, badKept, badCount, badWords, fitRow}
+use Rattle.answers.specs.Table.{badWidth, badKept, badCount, badWords, fitRow, padded}
 use Rattle.sums.specs.Sums.{addSums}
 use Rattle.byte_sums.specs.Bytes.{littleEndian, wordsFrom, countOf, wordsOf}
 use Rattle.digest.specs.Words.{digestAnswer, digestRow}
-use Rattle.stream.specs.State.{padded, fitState, lastWords, pushed, opened, noStream}
+use Rattle.stream.specs.State.{fitState, lastWords, pushed, opened, noStream}
 use Rattle.stream.specs.Calls.{openAnswer, openState, pushAnswer, pushState, readAnswer, reading, readRow}
 use Rattle.mt19937.specs.Published.{following, newWord, newWords, seeded}
 use Rattle.worked_cases.specs.Cases.{Case, case, called, cases}

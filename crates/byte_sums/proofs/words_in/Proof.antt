@@ -1,6 +1,6 @@
 -- `byte_sums::words_in` meets its contract: a word that is not full counts as one.
 use mathlib.Core.Path.{_≡_, sym, _∙_}
-use mathlib.Core.Bool.{true, false}
+use mathlib.Core.Bool.{false}
 use Prim.Native.Nat.{_/_}
 use native.Mathlib.Nat.{div-mul-le-self, le-mul-of-pos-right}
 use native.Mathlib.Omega.{arith}

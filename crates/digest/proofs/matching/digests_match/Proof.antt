@@ -1,5 +1,5 @@
 -- `digest::matching::digests_match` meets its contract: each return is the first test that holds, or what the rows say.
-use mathlib.Core.Path.{_≡_, sym, _∙_}
+use mathlib.Core.Path.{sym, _∙_}
 use borrow.Author.Tests.{eq-eqb, ne-eqb}
 use Rattle.answers.proofs.Judged.{judged, rows-passed}
 use Rattle.digest.specs.Match.{matchAnswer}

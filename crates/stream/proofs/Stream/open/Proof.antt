@@ -3,8 +3,9 @@ use mathlib.Core.Path.{sym, _∙_}
 use native.Mathlib.Omega.{arith}
 use Rattle.stream.specs.State.{noStream}
 use Rattle.stream.specs.Calls.{openState}
-use Rattle.stream.proofs.Judged.{opens, refused, accepted}
-use Rattle.stream.proofs.Padded.{opened-from}
+use Rattle.answers.proofs.States.{state-refused, state-accepted}
+use Rattle.stream.proofs.Judged.{opens}
+use Rattle.stream.proofs.Made.{opened-from}
 use borrow.Author.Needs.{needs}
 use Rattle.stream.proofs.Stream.open.Statement.{statement}
 use Rattle.stream.proofs.Stream.open.Tie as tie
@@ -14,7 +15,7 @@ opening-requires c κs = search needs
 
 returns : tie.Need-returns
 unfolding openState noStream
-returns c = refused _ _ (c .before .opening .ensures) (c .if1 .taken)
+returns c = state-refused _ _ (c .before .opening .ensures) (c .if1 .taken)
 
 row-requires : tie.Need-row-requires
 row-requires c κs =
@@ -23,7 +24,7 @@ row-requires c κs =
 
 returns-2 : tie.Need-returns-2
 unfolding openState
-returns-2 c = accepted _ _ (c .before .before .opening .ensures) _ (c .before .if1 .left) (opened-from _ _ _ _ _ (c .row .ensures))
+returns-2 c = state-accepted _ _ (c .before .before .opening .ensures) _ (c .before .if1 .left) (opened-from _ _ _ _ _ (c .row .ensures))
 
 pub open-spec : {M : Type 1} → statement M
 open-spec = tie.close (tie.spec opening-requires returns row-requires returns-2)

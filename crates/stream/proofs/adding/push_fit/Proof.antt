@@ -3,7 +3,7 @@ use mathlib.Core.Path.{_≡_, sym}
 use native.Mathlib.Omega.{arith}
 use lib.ListN.{length}
 use Rattle.stream.proofs.Judged.{Takes, takes}
-use Rattle.stream.proofs.Padded.{pushed-from}
+use Rattle.stream.proofs.Made.{pushed-from}
 use borrow.Author.Needs.{needs}
 use Rattle.stream.proofs.adding.push_fit.Statement.{statement}
 use Rattle.stream.proofs.adding.push_fit.Tie as tie

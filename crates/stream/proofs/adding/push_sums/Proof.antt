@@ -2,7 +2,7 @@
 use mathlib.Core.Path.{_≡_}
 use native.Mathlib.Omega.{arith}
 use lib.ListN.{length, take, length-take}
-use Rattle.stream.proofs.Padded.{held-length}
+use Rattle.answers.proofs.States.{held-length}
 use Rattle.stream.proofs.Joined.{joint-sums}
 use borrow.Author.Needs.{needs}
 use Rattle.stream.proofs.adding.push_sums.Statement.{statement}

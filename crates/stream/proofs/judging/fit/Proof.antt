@@ -1,6 +1,6 @@
 -- `stream::judging::fit` meets its contract: the state's tests one by one, then its two rows.
 use Rattle.stream.specs.State.{fitState}
-use Rattle.stream.proofs.Judged.{state-judged}
+use Rattle.answers.proofs.States.{state-judged}
 use borrow.Author.Needs.{needs}
 use Rattle.stream.proofs.judging.fit.Statement.{statement}
 use Rattle.stream.proofs.judging.fit.Tie as tie

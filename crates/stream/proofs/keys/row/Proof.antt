@@ -2,7 +2,7 @@
 use mathlib.Core.Path.{_∙_}
 use lib.ListN.{replicate}
 use Rattle.rows.proofs.Written.{over-fits}
-use Rattle.stream.specs.State.{padded}
+use Rattle.answers.specs.Table.{padded}
 use borrow.Author.Needs.{needs}
 use Rattle.stream.proofs.keys.row.Statement.{statement}
 use Rattle.stream.proofs.keys.row.Tie as tie

@@ -1,7 +1,7 @@
 -- `sums::many::add_sums` meets its contract: after i sums the row is the first i new sums, then the old ones from there on.
-use mathlib.Core.Path.{_≡_, refl, ap, _∙_}
+use mathlib.Core.Path.{_≡_, ap, _∙_}
 use mathlib.Core.List.{List}
-use Prim.Native.Nat.{ℕ, _+_, _%_, _^_, _≤_, _-_, min}
+use Prim.Native.Nat.{ℕ, _+_, _%_, _^_, _≤_, _-_}
 use native.Mathlib.Omega.{arith}
 use lib.ListN.{length, getD, drop}
 use Rattle.rows.specs.Written.{written}

@@ -1,5 +1,5 @@
 -- `sums::many::add_word` meets its contract: the sum may wrap at 32 bits before it is reduced.
-use mathlib.Core.Path.{_≡_, ap, _∙_}
+use mathlib.Core.Path.{ap, _∙_}
 use Prim.Native.Nat.{ℕ, _+_, _%_, _^_}
 use borrow.Author.Needs.{needs}
 use Rattle.counts.specs.Digest.{wholeSum, oneWord, kept}

@@ -1,21 +1,42 @@
--- Rows of eight places whose unused places are zero.
+-- A state's tests as a function makes them, its rows of eight places, and the state after a call.
 use mathlib.Core.Path.{_≡_, refl, sym, ap, ap₂, _∙_}
-use mathlib.Core.Bool.{true}
+use mathlib.Core.Bool.{Bool, true, false, _&&_, cond}
 use mathlib.Core.List.{List, [], _∷_, _++_}
-use Prim.Native.Nat.{ℕ, _+_, _-_, _≤_}
+use Prim.Native.Nat.{ℕ, _-_, _≤_}
 use native.Mathlib.Nat.{suc-ne-zero}
 use native.Mathlib.Omega.{arith}
-use borrow.Author.Tests.{ltb-true}
-use lib.Dec.{ltb}
+use borrow.Author.Tests.{ltb-true, eq-eqb, ne-eqb}
+use lib.Dec.{ltb, eqb}
 use lib.ListN.{length, take, drop, replicate, length-append, length-drop}
 use lib.Seq.{take-at, drop-at, length-take-le}
 use Rattle.counts.specs.Digest.{fits}
-use Rattle.answers.specs.Table.{fitRow}
-use Rattle.answers.proofs.Fits.{both, fits-parts, fits-zeros}
-use Rattle.sums.specs.Sums.{addSums, leafSums}
-use Rattle.sums.proofs.Each.{length-sums, leaf-sums}
-use Rattle.stream.specs.declared.Stream.{Stream}
-use Rattle.stream.specs.State.{padded, heldKeys, heldSums, lastWords, pushed, opened}
+use Rattle.counts.proofs.Fits.{both, fits-parts, fits-zeros}
+use Rattle.answers.specs.Answers.{Test, test, noneOf}
+use Rattle.answers.specs.Table.{fitRow, padded}
+
+-- a state's tests one by one, as the code makes them: r is what a function answers, x what the tests after it give
+module _ (n : ℕ) (ts : List Test) (rows : Bool) {h r : Bool} where
+  pub unfit : r ≡ h → r ≡ true → false ≡ (noneOf (test n h ∷ ts) && rows)
+  unfolding noneOf
+  unfit e t = rw (sym e ∙ t)
+
+  pub fit-so-far : {x : Bool} → r ≡ h → r ≡ false → x ≡ (noneOf ts && rows) → x ≡ (noneOf (test n h ∷ ts) && rows)
+  unfolding noneOf
+  fit-so-far e t p = rw (sym e ∙ t) p
+
+pub fit-settings : {x rows : Bool} → x ≡ rows → x ≡ (noneOf [] && rows)
+unfolding noneOf
+fit-settings p = p
+
+module _ (w n : ℕ) (row : List ℕ) (rest : Bool) {r : Bool} where
+  pub unfit-row : r ≡ fitRow w n row → r ≡ false → false ≡ (fitRow w n row && rest)
+  unfit-row e t = rw (sym e ∙ t)
+
+  pub fit-one-row : {x : Bool} → r ≡ fitRow w n row → r ≡ true → x ≡ rest → x ≡ (fitRow w n row && rest)
+  fit-one-row e t p = rw (sym e ∙ t) p
+
+-- for the search of a function that judges a state
+pub ruleset state-judged = (unfit, fit-so-far, fit-settings, unfit-row, fit-one-row)
 
 -- the words that a row of eight places holds
 pub held-length : (n : ℕ) (row : List ℕ) → n ≤ 8 → length row ≡ 8 → length (take n row) ≡ n
@@ -72,26 +93,18 @@ module _ (n : ℕ) (words : List ℕ) (len : length words ≡ n) (few : n ≤ 8)
   padded-over row eight zero =
       ap (λ (l : List ℕ). words ++ l) (same-zeros (drop n row) unused (omega (arith, length-drop n row, unused-places)) zero unused-zero)
 
--- the states as the code makes them
-pub opened-from : (w b n : ℕ) (ks keys : List ℕ) → keys ≡ padded ks
-    → _≡_ {A = Stream} (record { width = w; kept = b; n = n; taken = 0; keys = keys; sums = replicate 8 0 }) (opened w b n ks)
-unfolding opened
-opened-from w b n ks keys e = ap {B = Stream} (λ (l : List ℕ). record { width = w; kept = b; n = n; taken = 0; keys = l; sums = replicate 8 0 }) e
+-- the state after a refusal, and after an accepted call
+module _ {S : Type 0} where
+  pub old-state : (answer : ℕ) (new old : S) → (answer ≡ 0 → ⊥) → cond (eqb answer 0) new old ≡ old
+  old-state answer new old ne = rw (ne-eqb answer 0 ne)
 
-pub pushed-from : (s : Stream) (ms ks keys sums : List ℕ)
-    → s .width ≤ 32
-    → s .n ≤ 8
-    → length (s .sums) ≡ 8
-    → fitRow (s .width) (s .n) (s .sums) ≡ true
-    → keys ≡ padded (lastWords (s .n) (heldKeys s ++ ks))
-    → sums ≡ leafSums (s .width) (s .n) ms (heldKeys s ++ ks) (s .sums)
-    → _≡_ {A = Stream} (record { width = s .width; kept = s .kept; n = s .n; taken = s .taken + length ms; keys = keys; sums = sums }) (pushed s ms ks)
-unfolding pushed
-pushed-from s ms ks keys sums le few eight row ek es =
-    let added = addSums (s .width) ms (heldKeys s ++ ks) (heldSums s) in
-    let count : length added ≡ s .n = length-sums (s .width) ms (heldKeys s ++ ks) (heldSums s) ∙ held-length (s .n) (s .sums) few eight in
-    ap₂ {C = Stream} (λ (x y : List ℕ). record { width = s .width; kept = s .kept; n = s .n; taken = s .taken + length ms; keys = x; sums = y })
-    ek
-    (es
-    ∙ leaf-sums (s .width) (s .n) le ms (heldKeys s ++ ks) (s .sums)
-    ∙ padded-over (s .n) added count few (s .sums) eight (row-parts (s .width) (s .n) (s .sums) row .1))
+  pub new-state : (answer : ℕ) (new old : S) → answer ≡ 0 → cond (eqb answer 0) new old ≡ new
+  new-state answer new old e = rw (eq-eqb answer 0 e)
+
+  -- r is the number that the call's tests gave
+  module _ {answer r : ℕ} (new old : S) (judged : r ≡ answer) where
+    pub state-refused : (r ≡ 0 → ⊥) → (r ≡ answer) × (old ≡ cond (eqb answer 0) new old)
+    state-refused ne = (judged, sym (old-state answer new old (λ z. ne (judged ∙ z))))
+
+    pub state-accepted : (state : S) → r ≡ 0 → state ≡ new → (r ≡ answer) × (state ≡ cond (eqb answer 0) new old)
+    state-accepted state z made = (judged, made ∙ sym (new-state answer new old (sym judged ∙ z)))

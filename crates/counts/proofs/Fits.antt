@@ -1,0 +1,29 @@
+-- Rows of words that fit a width: in parts, and zeros.
+use mathlib.Core.Path.{_≡_, refl, sym, ap, _∙_}
+use mathlib.Core.Bool.{Bool, true, false, _&&_, and-assoc, true≢false}
+use mathlib.Core.List.{List, [], _∷_, _++_}
+use Prim.Native.Nat.{ℕ, zero, suc, _^_}
+use lib.Dec.{ltb}
+use lib.Pow.{pow-pos}
+use lib.ListN.{take, drop, replicate, take-append-drop}
+use borrow.Author.Tests.{lt-ltb}
+use Rattle.counts.specs.Digest.{fits}
+
+-- both of two tests
+pub both : (a b : Bool) → (a && b) ≡ true → (a ≡ true) × (b ≡ true)
+both true b e = (refl, e)
+both false b e = absurd (true≢false (sym e))
+
+pub fits-append : (w : ℕ) (a b : List ℕ) → fits w (a ++ b) ≡ (fits w a && fits w b)
+unfolding fits
+fits-append w [] b = refl
+fits-append w (x ∷ a) b = ap (λ (t : Bool). ltb x (2 ^ w) && t) (fits-append w a b) ∙ sym (and-assoc (ltb x (2 ^ w)) (fits w a) (fits w b))
+
+-- parts of a row that fits
+pub fits-parts : (w n : ℕ) (xs : List ℕ) → fits w xs ≡ true → (fits w (take n xs) ≡ true) × (fits w (drop n xs) ≡ true)
+fits-parts w n xs h = both (fits w (take n xs)) (fits w (drop n xs)) (sym (fits-append w (take n xs) (drop n xs)) ∙ ap (fits w) (take-append-drop n xs) ∙ h)
+
+pub fits-zeros : (w n : ℕ) → fits w (replicate n 0) ≡ true
+unfolding fits
+fits-zeros w zero = refl
+fits-zeros w (suc n) = rw (lt-ltb 0 (2 ^ w) (pow-pos w)) (fits-zeros w n)
