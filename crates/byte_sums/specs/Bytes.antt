@@ -32,11 +32,11 @@ wordsOf w xs = wordsFrom (w / 8) (wordCount (w / 8) xs) xs
 unfoldable pub wordsIn : ℕ → ℕ → ℕ
 wordsIn w bytes = cond (badByteWidth w) 0 (countOf (w / 8) bytes)
 
--- the bytes in a word of a byte width
+-- the bytes in a word of a byte width: 1, 2 or 4
 abbrev pub Size : ℕ → Type 0
 Size c = (1 ≤ c) × (c ≤ 4) × (c ≢ 3)
 
--- what t words of c bytes add to eight sums that are zero
+-- the first t words of c bytes, summed from zero
 abbrev pub sumsFrom : ℕ → ℕ → ℕ → ℕ → List ℕ → List ℕ → List ℕ
 sumsFrom w n c t xs ks = leafSums w n (wordsFrom c t xs) ks (replicate 8 0)
 

@@ -14,7 +14,9 @@ pub fn sums_of_bytes(w: u32, n: usize, message: &[u8], key: &[u32]) -> [u32; 8]
         return [0; 8];
     }
     let c = (w / 8) as usize;
-    sum_last(w, c, n, message, key, sum_full(w, c, n, message, key))
+    let full = message.len() / c;
+    let sums = sum_full(w, c, n, full, message, key);
+    sum_last(w, c, n, full, message, key, sums)
 }
 
 // How many words of a byte width the bytes fill, the last perhaps not full; 0 at any other width.
@@ -32,12 +34,23 @@ pub fn words_in(w: u32, bytes: usize) -> usize
     full
 }
 
-// The sums of the full words, a block of at most 256 at a time.
-fn sum_full(w: u32, c: usize, n: usize, message: &[u8], key: &[u32]) -> [u32; 8]
-    requires { ⌜ (w ≤ 32) × Size c ⌝ }
-    ensures { λ r. ⌜ r ≡ sumsFrom w n c (length (now (message .entry)) / c) (now (message .entry)) (now (key .entry)) ⌝ }
+// The sums of the full words. A short message is one block, in a row that costs little to make.
+fn sum_full(w: u32, c: usize, n: usize, full: usize, message: &[u8], key: &[u32]) -> [u32; 8]
+    requires { ⌜ (w ≤ 32) × Size c × (full * c ≤ length (now message)) ⌝ }
+    ensures { λ r. ⌜ r ≡ sumsFrom w n c full (now (message .entry)) (now (key .entry)) ⌝ }
 {
-    let full = message.len() / c;
+    if full <= 64 {
+        let mut row = [0u32; 64];
+        return sum_block(w, c, n, message, key, &mut row[..full], [0; 8]);
+    }
+    sum_blocks(w, c, n, full, message, key)
+}
+
+// The same, a block of at most 256 words at a time.
+fn sum_blocks(w: u32, c: usize, n: usize, full: usize, message: &[u8], key: &[u32]) -> [u32; 8]
+    requires { ⌜ (w ≤ 32) × Size c × (full * c ≤ length (now message)) ⌝ }
+    ensures { λ r. ⌜ r ≡ sumsFrom w n c full (now (message .entry)) (now (key .entry)) ⌝ }
+{
     let mut row = [0u32; 256];
     let mut sums = [0u32; 8];
     let mut at = 0;
@@ -79,11 +92,18 @@ fn sum_block(
 }
 
 // The sums with the last word, where it is not full: a message of one word, under the key from its place on.
-fn sum_last(w: u32, c: usize, n: usize, message: &[u8], key: &[u32], sums: [u32; 8]) -> [u32; 8]
-    requires { ⌜ (w ≤ 32) × Size c × (sums ≡ sumsFrom w n c (length (now message) / c) (now message) (now key)) ⌝ }
+fn sum_last(
+    w: u32,
+    c: usize,
+    n: usize,
+    full: usize,
+    message: &[u8],
+    key: &[u32],
+    sums: [u32; 8],
+) -> [u32; 8]
+    requires { ⌜ (w ≤ 32) × Size c × (full ≡ length (now message) / c) × (sums ≡ sumsFrom w n c full (now message) (now key)) ⌝ }
     ensures { λ r. ⌜ r ≡ sumsFrom w n c (wordCount c (now (message .entry))) (now (message .entry)) (now (key .entry)) ⌝ }
 {
-    let full = message.len() / c;
     let start = full * c;
     if start < message.len() {
         let word = [last(message, start)];

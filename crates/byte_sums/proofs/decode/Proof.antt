@@ -1,7 +1,7 @@
 -- `byte_sums::decode` meets its contract, size by size.
-use mathlib.Core.Path.{_≡_}
+use mathlib.Core.Path.{_∙_}
 use native.Mathlib.Omega.{arith}
-use Rattle.byte_sums.proofs.FromBytes.{of-size}
+use Rattle.byte_sums.proofs.Blocks.{of-size, words-size}
 use borrow.Author.Needs.{needs}
 use Rattle.byte_sums.proofs.decode.Statement.{statement}
 use Rattle.byte_sums.proofs.decode.Tie as tie
@@ -13,7 +13,7 @@ same-length : tie.Need-same-length
 same-length c = search needs
 
 returns : tie.Need-returns
-returns c = cc
+returns c = c .before .before .decode-run .ensures ∙ words-size _ 1 _ _ (omega arith)
 
 decode-run-requires-2 : tie.Need-decode-run-requires-2
 decode-run-requires-2 c κs = of-size _ 2 _ _ (omega arith) (c .before .before .before .before .before .pre)
@@ -22,7 +22,7 @@ same-length-2 : tie.Need-same-length-2
 same-length-2 c = search needs
 
 returns-2 : tie.Need-returns-2
-returns-2 c = cc
+returns-2 c = c .before .before .decode-run2 .ensures ∙ words-size _ 2 _ _ (omega arith)
 
 decode-run-requires-3 : tie.Need-decode-run-requires-3
 decode-run-requires-3 c κs = of-size _ 4 _ _ (omega arith) (c .before .before .before .before .before .pre)
@@ -31,9 +31,7 @@ same-length-3 : tie.Need-same-length-3
 same-length-3 c = search needs
 
 returns-3 : tie.Need-returns-3
-returns-3 c =
-    let four : c .before .before .before .before .before .before .before .before .args .c ≡ 4 = omega arith in
-    cc
+returns-3 c = c .before .before .decode-run3 .ensures ∙ words-size _ 4 _ _ (omega arith)
 
 pub decode-spec : {M : Type 1} → statement M
 decode-spec =

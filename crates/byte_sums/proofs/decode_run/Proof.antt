@@ -6,7 +6,8 @@ use lib.ListN.{length, drop, length-set}
 use Rattle.rows.specs.Written.{written}
 use Rattle.rows.proofs.Written.{written-none, written-step}
 use Rattle.byte_sums.specs.Bytes.{littleEndian}
-use Rattle.byte_sums.proofs.FromBytes.{words-written, word-there}
+use Rattle.byte_sums.proofs.Words.{words-written}
+use Rattle.byte_sums.proofs.Blocks.{word-there}
 use borrow.Author.Needs.{needs}
 use Rattle.byte_sums.proofs.decode_run.Statement.{statement}
 use Rattle.byte_sums.proofs.decode_run.Tie as tie
@@ -22,13 +23,13 @@ loop-holds c = (search needs, refl, written-none _ _)
 
 mul-load : tie.Need-mul-load Inv-loop μ-loop
 mul-load c =
-    let a = c .before .before .before .before .args in
-    omega (arith, word-there (a .c) (c .before .loop .i) (length (a .row .now)) (omega arith))
+    let s = c .before .before .before .before in
+    omega (arith, word-there (s .args .c) (c .before .loop .i) (length (s .args .row .now)) (length (s .args .bytes .now)) (omega arith) (s .pre .1))
 
 load-requires : tie.Need-load-requires Inv-loop μ-loop
 load-requires c κs =
-    let a = c .before .before .before .before .args in
-    (search needs, omega (arith, word-there (a .c) (c .before .loop .i) (length (a .row .now)) (omega arith)))
+    let s = c .before .before .before .before in
+    (s .pre .0, word-there (s .args .c) (c .before .loop .i) (length (s .args .row .now)) _ (omega arith) (s .pre .1))
 
 mul-row : tie.Need-mul-row Inv-loop μ-loop
 mul-row c = omega arith

@@ -1,7 +1,7 @@
 -- `byte_sums::last` meets its contract: four bytes, those past the end being 0.
 use mathlib.Core.Path.{refl}
 use native.Mathlib.Omega.{arith}
-use Rattle.byte_sums.proofs.FromBytes.{little-four}
+use Rattle.byte_sums.proofs.Words.{little-four}
 use borrow.Author.Needs.{needs}
 use Rattle.byte_sums.proofs.last.Statement.{statement}
 use Rattle.byte_sums.proofs.last.Tie as tie

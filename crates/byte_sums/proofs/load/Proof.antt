@@ -1,6 +1,6 @@
 -- `byte_sums::load` meets its contract: the bytes of a full word, the first lowest.
 use native.Mathlib.Omega.{arith}
-use Rattle.byte_sums.proofs.FromBytes.{little-one, little-two, little-four}
+use Rattle.byte_sums.proofs.Words.{little-one, little-two, little-four}
 use borrow.Author.Needs.{needs}
 use Rattle.byte_sums.proofs.load.Statement.{statement}
 use Rattle.byte_sums.proofs.load.Tie as tie

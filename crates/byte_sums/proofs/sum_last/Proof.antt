@@ -1,23 +1,20 @@
 -- `byte_sums::sum_last` meets its contract: the last word is a part of one word, or none is left.
 use mathlib.Core.Path.{sym, ap, _∙_}
-use Prim.Native.Nat.{ℕ, _/_}
-use native.Mathlib.Nat.{div-mul-le-self}
+use Prim.Native.Nat.{ℕ}
 use native.Mathlib.Omega.{arith}
 use lib.ListN.{length}
 use Rattle.rows.proofs.Parts.{part-from}
 use Rattle.byte_sums.specs.Bytes.{wordCount, sumsFrom}
-use Rattle.byte_sums.proofs.FromBytes.{sums-step, count-more, count-exact, last-word}
+use Rattle.byte_sums.proofs.Words.{full-there, count-more, count-exact, last-word}
+use Rattle.byte_sums.proofs.Blocks.{sums-step}
 use borrow.Author.Needs.{needs}
 use Rattle.byte_sums.proofs.sum_last.Statement.{statement}
 use Rattle.byte_sums.proofs.sum_last.Tie as tie
 
-div-full : tie.Need-div-full
-div-full c = search needs
-
 mul-start : tie.Need-mul-start
 mul-start c =
-    let a = c .before .before .args in
-    omega (arith, div-mul-le-self (length (a .message .now)) (a .c))
+    let s = c .before .before in
+    omega (arith, full-there (s .args .c) (s .args .full) (length (s .args .message .now)) (s .pre .1 .0) (s .pre .2))
 
 last-requires : tie.Need-last-requires
 last-requires c κs = search needs
@@ -48,26 +45,25 @@ returns c =
     let s = c .before .before .before .before .before .before .before .before in
     let a = s .args in
     let xs = a .message .now in
-    let full = length xs / a .c in
     c .add-sums .ensures
-    ∙ sums-step (a .w) (a .n) (a .c) xs (a .key .now) full 1 (wordCount (a .c) xs) _ _ (a .sums) (search needs)
-    (sym (count-more (length xs) (a .c) (search needs) (c .before .before .before .before .before .if1 .taken)))
-    (last-word (a .c) _ xs (s .pre .1) (c .before .before .before .before .last .ensures))
-    (part-from _ full (a .key .now) (c .before .before .before .lesser .ensures))
-    (s .pre .2)
+    ∙ sums-step (a .w) (a .n) (a .c) xs (a .key .now) (a .full) 1 (wordCount (a .c) xs) _ _ (a .sums) (search needs)
+    (sym (count-more (a .c) (a .full) (length xs) (s .pre .1 .0) (s .pre .2) (c .before .before .before .before .before .if1 .taken)))
+    (last-word (a .c) (a .full) _ xs (s .pre .1) (s .pre .2) (c .before .before .before .before .last .ensures))
+    (part-from _ (a .full) (a .key .now) (c .before .before .before .lesser .ensures))
+    (s .pre .3)
 
 returns-2 : tie.Need-returns-2
 returns-2 c =
     let s = c .before .before .before in
     let a = s .args in
     let xs = a .message .now in
-    s .pre .2 ∙ ap (λ (t : ℕ). sumsFrom (a .w) (a .n) (a .c) t xs (a .key .now)) (sym (count-exact (length xs) (a .c) (search needs) (c .if1 .left)))
+    s .pre .3
+    ∙ ap (λ (t : ℕ). sumsFrom (a .w) (a .n) (a .c) t xs (a .key .now)) (sym (count-exact (a .c) (a .full) (length xs) (s .pre .1 .0) (s .pre .2) (c .if1 .left)))
 
 pub sum-last-spec : {M : Type 1} → statement M
 sum-last-spec =
     tie.close
     (tie.spec
-    div-full
     mul-start
     last-requires
     lesser-requires
