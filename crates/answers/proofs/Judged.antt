@@ -6,7 +6,7 @@ use Prim.Native.Nat.{ℕ, suc, _≤_}
 use native.Mathlib.Omega.{arith}
 use native.Mathlib.Decide.{ℕ-discrete}
 use lib.Dec.{ltb, eqb}
-use borrow.Author.Tests.{le-ltb, eq-eqb, ne-eqb, ltb-false, eqb-true, eqb-false, not-false}
+use borrow.Author.Tests.{le-ltb, eq-eqb, ne-eqb, ltb-false, eqb-true, eqb-false, not-true, not-false}
 use Rattle.counts.specs.Digest.{fits}
 use Rattle.counts.specs.Corollaries.{InRange}
 use Rattle.answers.specs.Answers.{Test, test, firstOf, noneOf}
@@ -47,11 +47,7 @@ passed n false ts e = (refl, e)
 
 pub none-passed : (n : ℕ) (h : Bool) (ts : List Test) → noneOf (test n h ∷ ts) ≡ true → (h ≡ false) × (noneOf ts ≡ true)
 unfolding noneOf
-none-passed n h ts e = let p = both (not h) (noneOf ts) e in (flipped h (p .0), p .1)
-  where
-    flipped : (h : Bool) → not h ≡ true → h ≡ false
-    flipped true z = absurd (true≢false (sym z))
-    flipped false z = refl
+none-passed n h ts e = let p = both (not h) (noneOf ts) e in (not-true h (p .0), p .1)
 
 either : (a b : Bool) → (a || b) ≡ false → (a ≡ false) × (b ≡ false)
 either true b e = absurd (true≢false e)
