@@ -2,7 +2,8 @@
 
 # Cargo on the agent's package; what it builds goes below target/.
 CARGO = CARGO_TARGET_DIR=target/agent cargo
-PACKAGE = --manifest-path agent/Cargo.toml --release --offline
+PACKAGE = --manifest-path agent/Cargo.toml --offline
+LIBRARY = target/staticlib/libpairing.a
 
 # every proof, must-fail edit, program, Rust test and C test; the last line is 'N passed, 0 failed'
 test:
@@ -10,37 +11,44 @@ test:
 
 # a scanner and a depot pair, from the Rust agent
 demo: lib
-	@$(CARGO) run $(PACKAGE) --quiet --bin demo
+	@$(CARGO) run $(PACKAGE) --release --quiet --example demo
 
 # every proof, and nothing else
 prove:
 	rt prove
 
-# the proved library for C and Rust: target/staticlib/libcapi.a
+# the proved library for C and Rust: target/staticlib/libpairing.a
 lib:
-	rt staticlib capi
+	@tools/lib.sh
 
 # the command line: target/agent/release/pairing
 pairing: lib
-	$(CARGO) build $(PACKAGE) --bin pairing
+	@$(CARGO) build $(PACKAGE) --release --quiet --bin pairing
+	@echo "The command line is target/agent/release/pairing."
 
 # the proved digests beside Rust loops, and the stretch beside C++'s generator, each in one run
 bench: lib
-	$(CARGO) run $(PACKAGE) --bin bench
+	$(CARGO) bench $(PACKAGE) --bench digests
 	@mkdir -p target/bench
-	g++ -std=c++17 -Wall -Wextra -Werror -O3 -Iinclude bench/stretch.cpp target/staticlib/libcapi.a -o target/bench/stretch
+	c++ -std=c++17 -Wall -Wextra -Werror -O3 -Iinclude bench/stretch.cpp $(LIBRARY) -o target/bench/stretch
 	target/bench/stretch
 
 # ten million random calls against an independent implementation, for ten minutes at most
 soak: lib
-	$(CARGO) test $(PACKAGE) --test soak -- --ignored --nocapture
+	$(CARGO) test $(PACKAGE) --release --test soak -- --ignored --nocapture
 
-# the Rust tests under valgrind, with fewer random calls; fails on any error
+# the C tests with sanitizers and under valgrind, the Rust tests under valgrind with fewer random calls; fails on any error
+VALGRIND = valgrind --quiet --error-exitcode=1 --leak-check=full --errors-for-leak-kinds=definite
+C_TESTS = cc -std=c11 -Wall -Wextra -Werror -g -Iinclude tests/c_interface.c $(LIBRARY)
 test-memory: export PAIRING_RANDOM_CALLS = 20000
-test-memory: export CARGO_TARGET_X86_64_UNKNOWN_LINUX_GNU_RUNNER = \
-	valgrind --error-exitcode=1 --leak-check=full --errors-for-leak-kinds=definite
+test-memory: export CARGO_TARGET_X86_64_UNKNOWN_LINUX_GNU_RUNNER = $(VALGRIND)
 test-memory: lib
-	$(CARGO) test $(PACKAGE) --tests -- --show-output
+	@mkdir -p target/tests
+	$(C_TESTS) -fsanitize=address,undefined -o target/tests/c_sanitized
+	target/tests/c_sanitized
+	$(C_TESTS) -o target/tests/c_memory
+	$(VALGRIND) target/tests/c_memory
+	$(CARGO) test $(PACKAGE) --release --tests -- --show-output
 
 # proves every crate from nothing and writes the table at the end of docs/CLAIMS.md
 figures:

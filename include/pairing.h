@@ -1,25 +1,48 @@
 /*
  * The proved pairing toolkit, for C and C++ on x86-64.
  *
- * A row of words is lent as a pointer and its count of words, a row of bytes as a
- * pointer and its count of bytes.
+ * Link libpairing.a. A row of words is lent as a pointer and its count of words, a
+ * row of bytes as a pointer and its count of bytes.
  *
  * The caller's premises, on which every promise rests:
- *   - each pointer is aligned, not null, and stands at as many words or bytes
- *     as its count says (at a count of 0 any aligned pointer that is not null will do);
+ *   - each pointer is aligned and stands at as many words or bytes as its count
+ *     says; at a count of 0 it may be anything aligned, NULL too;
  *   - an output row overlaps no other row of the same call, and nothing else
  *     writes a lent row while the call runs.
  * Nothing is asked of any number or word: a call that is not fit is refused.
  *
- * A call's tests run in the order of their numbers, and the first that holds is
- * the answer. A refusal returns its number and nothing else: every lent row holds
- * what it held.
+ * A call's tests run in the order in which the answers stand below, and the first
+ * that holds is the answer; a call makes the tests of what it is given. A refusal
+ * returns its number and nothing else: every lent row holds what it held.
+ *
+ * What the counts cover: how many keys make two different messages agree is proved
+ * over all keys of t + n words drawn uniformly; a stretched key is one of at most
+ * 2^32, and no count is proved for those.
  */
 #ifndef PAIRING_H
 #define PAIRING_H
 
 #include <stddef.h>
 #include <stdint.h>
+
+/* The version of this header and of the library that goes with it. */
+#define PAIRING_VERSION_MAJOR 0
+#define PAIRING_VERSION_MINOR 1
+#define PAIRING_VERSION_PATCH 0
+#define PAIRING_VERSION "0.1.0"
+
+/* Makes a compiler that can warn do so where an answer is not used: a refused call
+ * has written nothing. */
+#if (defined(__cplusplus) && __cplusplus >= 201703L) || (defined(__STDC_VERSION__) && __STDC_VERSION__ >= 202311L)
+#define PAIRING_USE_ANSWER [[nodiscard]]
+#elif defined(__GNUC__)
+#define PAIRING_USE_ANSWER __attribute__((warn_unused_result))
+#elif defined(_MSC_VER)
+#include <sal.h>
+#define PAIRING_USE_ANSWER _Check_return_
+#else
+#define PAIRING_USE_ANSWER
+#endif
 
 #ifdef __cplusplus
 extern "C" {
@@ -29,6 +52,9 @@ extern "C" {
 enum {
     /* Accepted: the output is written. */
     PAIRING_ACCEPTED = 0,
+    /* State: a stream or generator that is not fit. No entry here takes one, so none
+     * answers this. */
+    PAIRING_STATE = 8,
     /* Width: w is not 1 to 32; in the byte digest, not 8, 16 or 32. */
     PAIRING_WIDTH = 1,
     /* Kept: b is 0 or more than w. */
@@ -67,6 +93,7 @@ enum {
  * from n on keeping what they held; or one of PAIRING_WIDTH to PAIRING_WORD.
  * Message and key are only read.
  */
+PAIRING_USE_ANSWER
 uint32_t pairing_digest_words(uint32_t w, uint32_t b, uint32_t n,
                               const uint32_t *message, size_t message_words,
                               const uint32_t *key, size_t key_words,
@@ -77,6 +104,7 @@ uint32_t pairing_digest_words(uint32_t w, uint32_t b, uint32_t n,
  * word, the last word filled up with zero bytes. w is 8, 16 or 32; the key has n
  * words more than the message then has. Answers and output as above.
  */
+PAIRING_USE_ANSWER
 uint32_t pairing_digest_bytes(uint32_t w, uint32_t b, uint32_t n,
                               const uint8_t *message, size_t message_bytes,
                               const uint32_t *key, size_t key_words,
@@ -89,15 +117,17 @@ uint32_t pairing_digest_bytes(uint32_t w, uint32_t b, uint32_t n,
  * Answers PAIRING_ACCEPTED; or PAIRING_WIDTH, or PAIRING_LONG where out has more
  * than PAIRING_MOST_KEY_WORDS places.
  */
+PAIRING_USE_ANSWER
 uint32_t pairing_stretch(uint32_t w, uint32_t seed, uint32_t *out, size_t out_words);
 
 /*
  * Compares two digests of n words.
  *
  * Answers PAIRING_MATCH or PAIRING_NO_MATCH; or PAIRING_COUNT or PAIRING_TRAY.
- * Every place is looked at, wherever the first difference stands. Both rows are
- * only read, and may be one row.
+ * Both rows are only read, and may be one row. As built, every place is looked at
+ * wherever the first difference stands; that is not part of the promise.
  */
+PAIRING_USE_ANSWER
 uint32_t pairing_match(uint32_t n,
                        const uint32_t *first, size_t first_words,
                        const uint32_t *second, size_t second_words);

@@ -45,52 +45,50 @@ static int accepted_at_the_most_words(void)
     return answer == PAIRING_ACCEPTED && memcmp(out, due, sizeof due) == 0;
 }
 
-/* A refusal answers its number and leaves every row as it was. */
-static int refused(uint32_t due, uint32_t w, uint32_t b, uint32_t n, size_t message_words, size_t key_words,
-                   size_t out_words)
+/* A call to be refused: its settings, and the counts of the rows that are lent. */
+struct refusal {
+    uint32_t due, w, b, n;
+    size_t message_places, key_words, out_words;
+};
+
+/* Whether each call answers its number and leaves the output as it was. Exactly one of words and bytes is the message. */
+static int all_refused(const struct refusal *calls, size_t count, const uint32_t *words, const uint8_t *bytes)
 {
-    static const uint32_t rows[PAIRING_MOST_WORDS + 1] = {3, 7, 300};
-    static const uint32_t keys[] = {10, 20, 100, 250, 256};
-    const uint32_t before[] = {11, 12, 13};
+    static const uint32_t keys[] = {10, 20, 100, 250, 256}, before[] = {11, 12, 13};
     uint32_t out[] = {11, 12, 13};
-    uint32_t answer = pairing_digest_words(w, b, n, rows, message_words, keys, key_words, out, out_words);
-    return answer == due && memcmp(out, before, sizeof before) == 0;
+    size_t i;
+    for (i = 0; i < count; i++) {
+        const struct refusal *call = &calls[i];
+        uint32_t answer = words ? pairing_digest_words(call->w, call->b, call->n, words, call->message_places, keys,
+                                                       call->key_words, out, call->out_words)
+                                : pairing_digest_bytes(call->w, call->b, call->n, bytes, call->message_places, keys,
+                                                       call->key_words, out, call->out_words);
+        if (answer != call->due || memcmp(out, before, sizeof before) != 0)
+            return 0;
+    }
+    return 1;
 }
 
-static int refused_width(void)
+static int refused(void)
 {
-    return refused(PAIRING_WIDTH, 0, 0, 2, 2, 4, 3) && refused(PAIRING_WIDTH, 33, 8, 2, 2, 4, 3);
-}
-
-static int refused_kept(void)
-{
-    return refused(PAIRING_KEPT, 8, 0, 2, 2, 4, 3) && refused(PAIRING_KEPT, 8, 9, 2, 2, 4, 3);
-}
-
-static int refused_count(void)
-{
-    return refused(PAIRING_COUNT, 8, 8, 0, 2, 2, 3) && refused(PAIRING_COUNT, 8, 8, 9, 2, 4, 3);
-}
-
-static int refused_long(void)
-{
-    return refused(PAIRING_LONG, 32, 32, 2, PAIRING_MOST_WORDS + 1, 4, 3);
-}
-
-static int refused_key(void)
-{
-    return refused(PAIRING_KEY, 8, 8, 2, 2, 3, 3) && refused(PAIRING_KEY, 8, 8, 2, 2, 5, 3);
-}
-
-static int refused_tray(void)
-{
-    return refused(PAIRING_TRAY, 8, 8, 2, 2, 4, 1) && refused(PAIRING_TRAY, 8, 8, 2, 2, 4, 0);
-}
-
-static int refused_word(void)
-{
-    /* First a message word, then only the key's last word. */
-    return refused(PAIRING_WORD, 8, 8, 1, 3, 4, 3) && refused(PAIRING_WORD, 8, 8, 3, 2, 5, 3);
+    static const uint32_t words[PAIRING_MOST_WORDS + 1] = {3, 7, 300};
+    static const struct refusal calls[] = {
+        {PAIRING_WIDTH, 0, 0, 2, 2, 4, 3},
+        {PAIRING_WIDTH, 33, 8, 2, 2, 4, 3},
+        {PAIRING_KEPT, 8, 0, 2, 2, 4, 3},
+        {PAIRING_KEPT, 8, 9, 2, 2, 4, 3},
+        {PAIRING_COUNT, 8, 8, 0, 2, 2, 3},
+        {PAIRING_COUNT, 8, 8, 9, 2, 4, 3},
+        {PAIRING_LONG, 32, 32, 2, PAIRING_MOST_WORDS + 1, 4, 3},
+        {PAIRING_KEY, 8, 8, 2, 2, 3, 3},
+        {PAIRING_KEY, 8, 8, 2, 2, 5, 3},
+        {PAIRING_TRAY, 8, 8, 2, 2, 4, 1},
+        {PAIRING_TRAY, 8, 8, 2, 2, 4, 0},
+        /* a message word, then only the key's last word */
+        {PAIRING_WORD, 8, 8, 1, 3, 4, 3},
+        {PAIRING_WORD, 8, 8, 3, 2, 5, 3},
+    };
+    return all_refused(calls, WORDS(calls), words, NULL);
 }
 
 /* Bytes 01 02 03 are the words 0x0201 0x0003. */
@@ -148,26 +146,14 @@ static int bytes_at_the_most_words(void)
 
 static int bytes_refused(void)
 {
-    static const struct {
-        uint32_t due, w, b, n;
-        size_t message_bytes, key_words, out_words;
-    } calls[] = {
+    static const uint8_t bytes[] = {255, 255, 255};
+    static const struct refusal calls[] = {
         {PAIRING_WIDTH, 0, 0, 2, 3, 4, 3},  {PAIRING_WIDTH, 24, 8, 2, 3, 3, 3}, {PAIRING_WIDTH, 33, 8, 2, 3, 3, 3},
         {PAIRING_KEPT, 16, 0, 2, 3, 4, 3},  {PAIRING_KEPT, 16, 17, 2, 3, 4, 3}, {PAIRING_COUNT, 16, 8, 0, 3, 2, 3},
         {PAIRING_COUNT, 16, 8, 9, 3, 4, 3}, {PAIRING_KEY, 16, 8, 2, 3, 3, 3},   {PAIRING_KEY, 16, 8, 2, 3, 5, 3},
         {PAIRING_TRAY, 16, 8, 2, 3, 4, 1},  {PAIRING_TRAY, 16, 8, 2, 3, 4, 0},  {PAIRING_WORD, 8, 8, 2, 3, 5, 3},
     };
-    const uint8_t bytes[] = {255, 255, 255};
-    const uint32_t keys[] = {10, 20, 100, 250, 256}, before[] = {11, 12, 13};
-    uint32_t out[] = {11, 12, 13};
-    size_t i;
-    for (i = 0; i < WORDS(calls); i++) {
-        uint32_t answer = pairing_digest_bytes(calls[i].w, calls[i].b, calls[i].n, bytes, calls[i].message_bytes, keys,
-                                               calls[i].key_words, out, calls[i].out_words);
-        if (answer != calls[i].due || memcmp(out, before, sizeof before) != 0)
-            return 0;
-    }
-    return 1;
+    return all_refused(calls, WORDS(calls), NULL, bytes);
 }
 
 /* The C++ standard fixes output 10,000 of seed 5489. */
@@ -218,6 +204,42 @@ static int match_refused(void)
            pairing_match(2, key, 1, key, 2) == PAIRING_TRAY && pairing_match(2, key, 2, key, 3) == PAIRING_TRAY;
 }
 
+/* At a count of 0 a row may be NULL: message, key, output, and each row of a match. */
+static int null_rows(void)
+{
+    const uint32_t seven = 7;
+    uint32_t out[] = {9, 9};
+    return pairing_digest_words(8, 8, 1, NULL, 0, &seven, 1, out, WORDS(out)) == PAIRING_ACCEPTED && out[0] == 0 &&
+           out[1] == 9 && pairing_digest_words(8, 8, 1, NULL, 0, NULL, 0, out, WORDS(out)) == PAIRING_KEY &&
+           pairing_digest_words(8, 8, 1, NULL, 0, &seven, 1, NULL, 0) == PAIRING_TRAY &&
+           pairing_digest_words(8, 8, 1, message, WORDS(message), NULL, 0, NULL, 0) == PAIRING_KEY &&
+           pairing_digest_words(0, 0, 0, NULL, 0, NULL, 0, NULL, 0) == PAIRING_WIDTH &&
+           pairing_stretch(32, 1, NULL, 0) == PAIRING_ACCEPTED && pairing_stretch(33, 1, NULL, 0) == PAIRING_WIDTH &&
+           pairing_match(1, NULL, 0, NULL, 0) == PAIRING_TRAY && pairing_match(1, NULL, 0, key, 1) == PAIRING_TRAY &&
+           pairing_match(1, key, 1, NULL, 0) == PAIRING_TRAY && pairing_match(0, NULL, 0, NULL, 0) == PAIRING_COUNT;
+}
+
+static int null_bytes(void)
+{
+    const uint32_t seven = 7;
+    uint32_t w;
+    for (w = 8; w <= 32; w *= 2) {
+        uint32_t out[] = {9, 9};
+        if (pairing_digest_bytes(w, w, 1, NULL, 0, &seven, 1, out, WORDS(out)) != PAIRING_ACCEPTED || out[0] != 0 ||
+            out[1] != 9 || pairing_digest_bytes(w, w, 1, NULL, 0, NULL, 0, out, WORDS(out)) != PAIRING_KEY ||
+            pairing_digest_bytes(w, w, 1, NULL, 0, &seven, 1, NULL, 0) != PAIRING_TRAY)
+            return 0;
+    }
+    return pairing_digest_bytes(24, 8, 1, NULL, 0, NULL, 0, NULL, 0) == PAIRING_WIDTH;
+}
+
+static int version(void)
+{
+    char text[32];
+    snprintf(text, sizeof text, "%d.%d.%d", PAIRING_VERSION_MAJOR, PAIRING_VERSION_MINOR, PAIRING_VERSION_PATCH);
+    return strcmp(text, PAIRING_VERSION) == 0;
+}
+
 static const struct {
     const char *name;
     int (*passes)(void);
@@ -226,13 +248,7 @@ static const struct {
     {"accepted_with_bits_dropped", accepted_with_bits_dropped},
     {"accepted_without_a_message", accepted_without_a_message},
     {"accepted_at_the_most_words", accepted_at_the_most_words},
-    {"refused_width", refused_width},
-    {"refused_kept", refused_kept},
-    {"refused_count", refused_count},
-    {"refused_long", refused_long},
-    {"refused_key", refused_key},
-    {"refused_tray", refused_tray},
-    {"refused_word", refused_word},
+    {"refused", refused},
     {"bytes_accepted", bytes_accepted},
     {"bytes_lowest_first", bytes_lowest_first},
     {"bytes_accepted_without_a_message", bytes_accepted_without_a_message},
@@ -244,6 +260,9 @@ static const struct {
     {"match", match},
     {"no_match", no_match},
     {"match_refused", match_refused},
+    {"null_rows", null_rows},
+    {"null_bytes", null_bytes},
+    {"version", version},
 };
 
 int main(void)

@@ -21,6 +21,9 @@ const OUTSIDE: [(&str, &str); 7] = [
     ("std::mt19937", "C++'s own generator"),
 ];
 
+/// The file that lists the commands of the command line.
+const COMMANDS: &str = "agent/src/bin/pairing/main.rs";
+
 /// Each file by its path from the root, with the names that it declares.
 #[derive(Default)]
 struct Tree(BTreeMap<String, BTreeSet<String>>);
@@ -84,7 +87,7 @@ impl Tree {
 }
 
 /// The name that a line of a file declares, after `pub` and the like. An edit has its file's name; what can be made is
-/// `make NAME`.
+/// `make NAME`, and a command of the command line `pairing NAME`.
 fn declared(path: &str, line: &str) -> Option<String> {
     let skipped = "pub pub(crate) extern \"C\" abbrev unfoldable";
     let mut words =
@@ -94,6 +97,7 @@ fn declared(path: &str, line: &str) -> Option<String> {
         // the names in this file are not the repository's
         _ if path == "tests/claims.rs" => return None,
         ("Makefile", ..) => return Some(format!("make {}", line.split_once(':')?.0)),
+        ("rs", "name:", _) if path == COMMANDS => return Some(command(second)),
         ("antt", "record", _) => second,
         ("rs", "const", "fn") => words.next()?,
         ("rt" | "rs", "fn" | "const" | "struct" | "enum" | "trait" | "type" | "mod", _) => second,
@@ -104,6 +108,11 @@ fn declared(path: &str, line: &str) -> Option<String> {
         _ => return None,
     };
     Some(name.split(['(', '<', ':', ';']).next()?.to_string())
+}
+
+/// The command whose name is quoted so.
+fn command(quoted: &str) -> String {
+    format!("pairing {}", quoted.trim_matches(['"', ',']))
 }
 
 /// A name in code marks, a path in them or not, and any other word or sign.
@@ -217,6 +226,7 @@ fn wrong(text: &str) -> String {
         ("crates/capi/src/lib.rt", "extern \"C\" fn pairing_match()"),
         ("crates/capi/must-fail/one_row.edit", "old: gone"),
         ("agent/src/lib.rs", "    pub const fn number(self) -> u32 {"),
+        ("agent/src/bin/pairing/main.rs", "        name: \"count\","),
         ("include/pairing.h", "    PAIRING_WIDTH = 1,"),
         ("include/pairing.h", "uint32_t pairing_width(uint32_t w);"),
         ("tests/claims.rs", "fn gone()"),
@@ -235,7 +245,7 @@ fn what_exists_is_not_reported() {
         "`State::new`, `sums::keep`, crates/sums/src/lib.rt; `capi`; `number`; `pairing_*`",
         "`pairing_width`, `PAIRING_WIDTH`: include/pairing.h; `pairing_match` (capi)",
         "(crates/sums/must-fail): `wrong_shift`; crate capi: `one_row` | `one_row` (capi, and so on)",
-        "`oneWord`, tests/run.c; `make\n  test`, `write`, crates/capi",
+        "`oneWord`, tests/run.c; `make\n  test`, `pairing count`, `write`, crates/capi",
     ] {
         assert_eq!(wrong(text), "");
     }
@@ -252,7 +262,7 @@ fn a_missing_path_is_reported() {
 
 #[test]
 fn a_missing_name_is_reported() {
-    let names = "gone, keep-specs, wrong_shifts, make tests, State::old, capi::new, paired_*, spec/, Sums.antt";
+    let names = "gone, keep-specs, wrong_shifts, make tests, pairing none, State::old, capi::new, paired_*, spec/, Sums.antt";
     for name in names.split(", ") {
         let fault = format!("line 3: no such name: {name}");
         assert_eq!(wrong(&format!("\n`oneWord`, `{name}`")), fault);

@@ -63,14 +63,27 @@ cxx=(c++ -std=c++17 -Wall -Wextra -Werror -O2 -Iinclude)
 "${cxx[@]}" tests/mt_outputs.cpp -o target/tests/mt_outputs
 run mt_outputs "$results" same_output mt_outputs
 
+# unused_answer COMPILER...: the compiler takes the header, and warns where an answer is dropped. Counts as one test.
+unused_answer() {
+    local compile=("$@" -Iinclude -Werror=unused-result -c tests/unused_answer.c -o "$logs/unused.o")
+    "${compile[@]}" -DUSED || fail "$1 refuses the header"
+    ! "${compile[@]}" 2>"$logs/unused.err" || fail "$1 does not warn of an unused answer"
+    grep -q 'unused-result' "$logs/unused.err" || fail "$1 refuses an unused answer for another reason"
+    echo "test $1 warns of an unused answer ... ok"
+    echo "test result: ok. 1 passed; 0 failed; 0 ignored; 0 measured; 0 filtered out"
+}
+
 # The proved library, called from Rust, with the full number of random calls, from C and from C++.
 unset PAIRING_RANDOM_CALLS
-rt staticlib capi
+tools/lib.sh
+library=target/staticlib/libpairing.a
 CARGO_TARGET_DIR=target/agent run agent "$results" \
     cargo test --manifest-path agent/Cargo.toml --release --offline -- --show-output
-cc -std=c11 -Wall -Wextra -Werror -O2 -Iinclude tests/c_interface.c target/staticlib/libcapi.a -o target/tests/c_interface
+cc -std=c11 -Wall -Wextra -Werror -O2 -Iinclude tests/c_interface.c "$library" -o target/tests/c_interface
 run c_interface "$results" target/tests/c_interface
-"${cxx[@]}" tests/stretch.cpp target/staticlib/libcapi.a -o target/tests/stretch
+run unused_in_c "$results" unused_answer cc -std=c11
+run unused_in_cxx "$results" unused_answer c++ -std=c++17 -x c++
+"${cxx[@]}" tests/stretch.cpp "$library" -o target/tests/stretch
 run stretch "$results" target/tests/stretch
 
 echo "$passed passed, 0 failed"

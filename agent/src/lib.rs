@@ -4,78 +4,99 @@
 //! function turns that number into a `Result`.
 //!
 //! ```
-//! // Width 8, all bits kept, two digest words; the key has two words more than the message.
+//! use pairing_agent::{digest_words, digests_match, Settings};
+//!
+//! // The key has two words more than the message, one for each digest word.
+//! let settings = Settings { width: 8, kept: 8, words: 2 };
 //! let mut digest = [0; 2];
-//! pairing_agent::digest_words(8, 8, 2, &[3, 7], &[10, 20, 100, 250], &mut digest)?;
+//! digest_words(settings, &[3, 7], &[10, 20, 100, 250], &mut digest)?;
 //! assert_eq!(digest, [0xac, 0xff]);
-//! assert!(pairing_agent::digests_match(2, &digest, &[0xac, 0xff])?);
+//! assert!(digests_match(settings.words, &digest, &[0xac, 0xff])?);
 //! # Ok::<(), pairing_agent::Refusal>(())
 //! ```
+//!
+//! # What is proved, and of which keys
+//!
+//! Every answer and every row is proved to be the one that the definitions give. So are two counts
+//! over all keys of t + n words drawn uniformly: how many make two different messages of one length
+//! agree, at most 2^(w·t + n + n·(w−b)) of 2^(w·(t+n)); and how many give a message each digest.
+//! A key that [`stretch`] makes is one of at most 2^32, and no count is proved for those.
 
 #![deny(unsafe_code)]
-#![warn(missing_docs)]
+#![deny(missing_docs)]
 
 #[allow(unsafe_code)]
+#[doc(hidden)]
 pub mod ffi;
 mod refusal;
+mod settings;
 
 pub use refusal::Refusal;
+pub use settings::Settings;
 
-/// Writes the digest of `message` under `key` into the first `n` places of `out`.
+/// The most words of a message.
+pub const MOST_MESSAGE_WORDS: usize = 65_536;
+
+/// The most words of a key, and so of a stretch: those for the longest message and digest.
+pub const MOST_KEY_WORDS: usize = 65_544;
+
+/// The most words of a digest.
+pub const MOST_DIGEST_WORDS: usize = 8;
+
+/// Writes the digest of `message` under `key` into the first places of `out`, one for each digest
+/// word.
 ///
-/// Words have `w` bits, and the low `b` bits of each digest word are kept. The key has `n` words
-/// more than the message. Places of `out` from `n` on keep what they held.
+/// The key has [`Settings::key_words`] words. Places of `out` beyond the digest keep what they held.
 ///
 /// # Errors
 ///
 /// `Width` to `Word`, as the library's tests find; `out` then holds what it held.
 pub fn digest_words(
-    w: u32,
-    b: u32,
-    n: u32,
+    settings: Settings,
     message: &[u32],
     key: &[u32],
     out: &mut [u32],
 ) -> Result<(), Refusal> {
-    written(ffi::digest_words(w, b, n, message, key, out))
+    written(ffi::digest_words(settings, message, key, out))
 }
 
-/// Writes the digest of the words that the bytes of `message` make into the first `n` places of `out`.
+/// Writes the digest of the words that the bytes of `message` make into the first places of `out`,
+/// one for each digest word.
 ///
 /// The width is 8, 16 or 32. Bytes fill words with the first byte lowest, and zero bytes fill up
-/// the last. The key has `n` words more than the message then has.
+/// the last, which makes [`Settings::words_of_bytes`] words. Key and `out` as for words.
 ///
 /// # Errors
 ///
 /// `Width` to `Word`, as the library's tests find; `out` then holds what it held.
 pub fn digest_bytes(
-    w: u32,
-    b: u32,
-    n: u32,
+    settings: Settings,
     message: &[u8],
     key: &[u32],
     out: &mut [u32],
 ) -> Result<(), Refusal> {
-    written(ffi::digest_bytes(w, b, n, message, key, out))
+    written(ffi::digest_bytes(settings, message, key, out))
 }
 
-/// Fills the whole of `key` with words of `w` bits, each from the next output of MT19937 made new
-/// from `seed`.
+/// Fills the whole of `key` with words of `width` bits, each from the next output of MT19937 made
+/// new from `seed`.
+///
+/// The counts over all keys are not proved for keys made so: there are at most 2^32 of them.
 ///
 /// # Errors
 ///
-/// `Width`, or `Long` for more than 65,544 words; `key` then holds what it held.
-pub fn stretch(w: u32, seed: u32, key: &mut [u32]) -> Result<(), Refusal> {
-    written(ffi::stretch(w, seed, key))
+/// `Width`, or `Long` for more than [`MOST_KEY_WORDS`]; `key` then holds what it held.
+pub fn stretch(width: u32, seed: u32, key: &mut [u32]) -> Result<(), Refusal> {
+    written(ffi::stretch(width, seed, key))
 }
 
-/// Whether two digests of `n` words agree at every place.
+/// Whether two digests of `words` words agree at every place.
 ///
 /// # Errors
 ///
-/// `Count`, or `Tray` where either row is not `n` words.
-pub fn digests_match(n: u32, first: &[u32], second: &[u32]) -> Result<bool, Refusal> {
-    match ffi::digests_match(n, first, second) {
+/// `Count`, or `Tray` where either row is not `words` words.
+pub fn digests_match(words: u32, first: &[u32], second: &[u32]) -> Result<bool, Refusal> {
+    match ffi::digests_match(words, first, second) {
         100 => Ok(true),
         101 => Ok(false),
         number => Err(refused(number)),

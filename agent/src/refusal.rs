@@ -5,12 +5,14 @@ use std::fmt;
 
 /// Why the library refused a call. The call has changed no row.
 ///
-/// The library tests in the order of the numbers, a state before all else, and answers the first
-/// test that holds.
+/// The library's tests run in the order in which the variants stand here, and the first that holds
+/// is the answer. A call makes the tests of what it is given.
 #[derive(Clone, Copy, Debug, PartialEq, Eq, Hash)]
 #[non_exhaustive]
 #[repr(u32)]
 pub enum Refusal {
+    /// A state that was handed in is none that the library leaves. No call of this crate takes one.
+    State = 8,
     /// The width is not 1 to 32 bits; for bytes, not 8, 16 or 32.
     Width = 1,
     /// No bits are kept, or more than the width has.
@@ -25,13 +27,12 @@ pub enum Refusal {
     Tray = 6,
     /// A message or key word is too large for the width.
     Word = 7,
-    /// A state that was handed in is none that the library leaves.
-    State = 8,
 }
 
 impl Refusal {
-    /// Every refusal, by its number.
+    /// Every refusal, in the order of the tests.
     pub const ALL: [Refusal; 8] = [
+        Refusal::State,
         Refusal::Width,
         Refusal::Kept,
         Refusal::Count,
@@ -39,7 +40,6 @@ impl Refusal {
         Refusal::Key,
         Refusal::Tray,
         Refusal::Word,
-        Refusal::State,
     ];
 
     /// The number that the library answers for this refusal.
@@ -54,6 +54,36 @@ impl Refusal {
         Refusal::ALL
             .into_iter()
             .find(|refusal| refusal.number() == number)
+    }
+
+    /// When the library gives it, as a sentence. What to do then is the refusal's own text.
+    #[must_use]
+    pub const fn given_when(self) -> &'static str {
+        match self {
+            Refusal::State => {
+                "The state of a stream or generator holds a number outside its range, or something \
+                 in a place not in use. Digest, match and stretch take no state and never answer \
+                 this."
+            }
+            Refusal::Width => {
+                "The width w is 0 or more than 32; for bytes, it is none of 8, 16 and 32."
+            }
+            Refusal::Kept => "The kept bits b are 0, or more than the width w.",
+            Refusal::Count => "The digest words n are 0, or more than 8.",
+            Refusal::Long => {
+                "The message has more than 65,536 words, or a key of more than 65,544 is stretched."
+            }
+            Refusal::Key => {
+                "The key does not have exactly n words more than the message. In a stream: the \
+                 opening key does not have n words, or a push has more words of one kind than of \
+                 the other."
+            }
+            Refusal::Tray => {
+                "The output has fewer places than the call writes. In a match: a row does not have \
+                 exactly n words."
+            }
+            Refusal::Word => "A word of the message or of the key has more than w bits.",
+        }
     }
 }
 
@@ -90,8 +120,10 @@ mod tests {
 
     #[test]
     fn numbers_and_refusals_go_together() {
-        for (i, refusal) in Refusal::ALL.into_iter().enumerate() {
-            assert_eq!(refusal.number() as usize, i + 1);
+        let mut numbers = Refusal::ALL.map(Refusal::number);
+        numbers.sort_unstable();
+        assert_eq!(numbers, [1, 2, 3, 4, 5, 6, 7, 8]);
+        for refusal in Refusal::ALL {
             assert_eq!(Refusal::from_number(refusal.number()), Some(refusal));
         }
         for number in [0, 9, 10, 99, 100, 101, 256 + 1, u32::MAX] {
@@ -103,8 +135,10 @@ mod tests {
     fn every_text_is_its_own() {
         for one in Refusal::ALL {
             assert!(!one.to_string().is_empty());
+            assert!(one.given_when().ends_with('.'));
             for other in Refusal::ALL {
                 assert_eq!(one.to_string() == other.to_string(), one == other);
+                assert_eq!(one.given_when() == other.given_when(), one == other);
             }
         }
     }

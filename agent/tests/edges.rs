@@ -1,227 +1,285 @@
-//! The edges of every test of a call, and the order of the tests.
+//! The edges of every test of a call, and the order of the tests. What both digests do alike is
+//! one function over the parts of a message, run for words and for bytes.
 
 #![forbid(unsafe_code)]
 
 mod common;
 
-use common::calls::{Digest, Match};
+use common::calls::{settings, Call, Digest, Match};
+use common::paper::WIDTHS_OF_BYTES;
+use common::part::Part;
 use common::random::Random;
-use pairing_agent::{ffi, Refusal};
+use pairing_agent::{digests_match, ffi, Refusal};
+use std::collections::BTreeSet;
 
-/// A call that is accepted, of t message words.
-fn fit(w: u32, b: u32, n: u32, t: usize) -> Digest {
-    let mut random = Random::new(u64::from(w) + 100 * t as u64);
-    let mut row =
-        |words: usize| -> Vec<u32> { (0..words).map(|_| random.word() >> (32 - w)).collect() };
-    Digest {
-        w,
-        b,
-        n,
-        message: row(t),
-        key: row(t + n as usize),
-        out: vec![0xdead_beef; n as usize],
-    }
+/// Makes each edge a test for words and a test for bytes.
+macro_rules! of_both_digests {
+    ($($edge:ident)*) => {
+        mod words {
+            $(#[test] fn $edge() { super::$edge::<u32>(); })*
+        }
+        mod bytes {
+            $(#[test] fn $edge() { super::$edge::<u8>(); })*
+        }
+    };
 }
 
-fn answer(call: &Digest) -> u32 {
+of_both_digests! {
+    width
+    width_0_with_b_0
+    kept
+    kept_9_at_width_8
+    count
+    long
+    largest_sums
+    key
+    key_of_the_wrong_kind_of_length
+    tray
+    word_256_at_width_8
+    word_at_every_width
+    word_at_every_place
+    word_at_the_ends_of_the_longest_rows
+    no_message
+    empty_rows
+    order_of_the_tests
+    results_name_the_refusals
+}
+
+/// A call that is accepted, of that many message parts.
+fn fit<P: Part>(w: u32, b: u32, n: u32, parts: usize) -> Digest<P> {
+    Digest::fit(settings(w, b, n), parts)
+}
+
+fn answer<P: Part>(call: &Digest<P>) -> u32 {
     call.check(&mut Random::new(5))
 }
 
-fn match_answer(n: u32, first: &[u32], second: &[u32]) -> u32 {
-    let call = Match {
-        n,
-        first: first.to_vec(),
-        second: second.to_vec(),
-    };
-    call.check(&mut Random::new(6))
+/// Those of the widths at which such messages are digested.
+fn fit_among<P: Part>(widths: &[u32]) -> Vec<u32> {
+    let mut fit = P::widths();
+    fit.retain(|w| widths.contains(w));
+    fit
 }
 
-#[test]
-fn width() {
-    for (w, due) in [(0, 1), (1, 0), (32, 0), (33, 1), (64, 1), (u32::MAX, 1)] {
-        let mut call = fit(1, 1, 1, 3);
-        call.w = w;
-        assert_eq!(answer(&call), due, "w {w}");
+fn width<P: Part>() {
+    let fit_widths = P::widths();
+    for w in (0..=40).chain([64, 128, 256, 1 << 16, 1 << 31, u32::MAX]) {
+        for fit_width in &fit_widths {
+            for parts in [0, 1, 3, 6] {
+                let mut call = fit::<P>(*fit_width, 1, 1, parts);
+                call.settings.width = w;
+                let number = answer(&call);
+                assert_eq!(number == 1, !fit_widths.contains(&w), "w {w}");
+                assert!(number == 0 || w != *fit_width, "w {w}, {parts} parts");
+            }
+        }
     }
 }
 
-#[test]
-fn width_0_with_b_0() {
-    let mut call = fit(8, 8, 1, 3);
-    (call.w, call.b) = (0, 0);
+fn width_0_with_b_0<P: Part>() {
+    let mut call = fit::<P>(8, 8, 1, 3);
+    (call.settings.width, call.settings.kept) = (0, 0);
     assert_eq!(answer(&call), 1);
 }
 
-#[test]
-fn kept() {
-    for w in 1..=32 {
-        for (b, due) in [
-            (0, 2),
-            (1, 0),
-            (w, 0),
-            (w + 1, 2),
-            (w + 32, 2),
-            (u32::MAX, 2),
-        ] {
-            let mut call = fit(w, 1, 2, 3);
-            call.b = b;
-            assert_eq!(answer(&call), due, "w {w}, b {b}");
+fn kept<P: Part>() {
+    for w in P::widths() {
+        for b in (0..=40).chain([w + 32, u32::MAX]) {
+            for parts in [3, 7] {
+                let mut call = fit::<P>(w, 1, 2, parts);
+                call.settings.kept = b;
+                let due = if b == 0 || b > w { 2 } else { 0 };
+                assert_eq!(answer(&call), due, "w {w}, b {b}, {parts} parts");
+            }
         }
     }
 }
 
-#[test]
-fn kept_9_at_width_8() {
-    let mut call = fit(8, 8, 1, 3);
-    call.b = 9;
-    assert_eq!(answer(&call), 2);
+fn kept_9_at_width_8<P: Part>() {
+    assert_eq!(answer(&fit::<P>(8, 9, 1, 3)), 2);
 }
 
-#[test]
-fn count() {
-    for n in 1..=8 {
-        assert_eq!(answer(&fit(8, 8, n, 3)), 0, "n {n}");
-    }
-    for n in [0, 9] {
-        assert_eq!(answer(&fit(8, 8, n, 3)), 3, "n {n}");
-    }
-    // The key of such a count could not be lent; the count is tested before it.
-    for n in [257, 1 << 16, u32::MAX] {
-        let mut call = fit(8, 8, 1, 3);
-        call.n = n;
-        assert_eq!(answer(&call), 3, "n {n}");
-    }
-}
-
-#[test]
-fn long() {
-    for n in [1, 8] {
-        for (t, due) in [(65_535, 0), (65_536, 0), (65_537, 4), (131_072, 4)] {
-            assert_eq!(answer(&fit(32, 32, n, t)), due, "n {n}, t {t}");
+fn count<P: Part>() {
+    for w in P::widths() {
+        for parts in [3, 7] {
+            for n in 0..=9 {
+                let due = if n == 0 || n == 9 { 3 } else { 0 };
+                assert_eq!(answer(&fit::<P>(w, w, n, parts)), due, "w {w}, n {n}");
+            }
+            // The key of such a count could not be lent; the count is tested before it.
+            for n in [257, 1 << 16, u32::MAX] {
+                let mut call = fit::<P>(w, w, 1, parts);
+                call.settings.words = n;
+                assert_eq!(answer(&call), 3, "w {w}, n {n}");
+            }
         }
     }
 }
 
-#[test]
-fn largest_sums() {
-    for w in [1, 8, 31, 32] {
-        let mut call = fit(w, w, 8, 65_536);
-        let most = u32::MAX >> (32 - w);
-        call.message.fill(most);
-        call.key.fill(most);
+/// 65,536 words pass, and a part more is a word more.
+fn long<P: Part>() {
+    for w in WIDTHS_OF_BYTES {
+        let word = P::parts_in_a_word(w);
+        let most = P::most(w);
+        let fit_lengths = [65_535, 65_536, most - word, most - 1, most];
+        let fit_lengths = BTreeSet::from(fit_lengths.map(|parts| parts.min(most)));
+        let too_long = BTreeSet::from([most + 1, most + word, most + word + 1, 2 * most]);
+        for n in [1, 8] {
+            for parts in &fit_lengths {
+                assert_eq!(answer(&fit::<P>(w, w, n, *parts)), 0, "w {w}, {parts}");
+            }
+            for parts in &too_long {
+                let mut call = fit::<P>(w, w, n, *parts);
+                assert_eq!(answer(&call), 4, "w {w}, {parts} parts");
+                // With a key for the most words as well.
+                call.key.truncate(65_536 + n as usize);
+                assert_eq!(answer(&call), 4, "w {w}, {parts} parts");
+            }
+        }
+    }
+}
+
+fn largest_sums<P: Part>() {
+    for w in fit_among::<P>(&[1, 8, 16, 31, 32]) {
+        for lacking in 0..P::parts_in_a_word(w) {
+            let mut call = fit::<P>(w, w, 8, P::most(w) - lacking);
+            fill_with_the_largest(&mut call);
+            assert_eq!(answer(&call), 0, "w {w}, {lacking} lacking");
+        }
+    }
+}
+
+fn fill_with_the_largest<P: Part>(call: &mut Digest<P>) {
+    let w = call.settings.width;
+    call.message.fill(P::largest(w));
+    call.key.fill(u32::MAX >> (32 - w));
+}
+
+fn key<P: Part>() {
+    for w in WIDTHS_OF_BYTES {
+        for n in 1..=8 {
+            for parts in [0, 1, 2, 3, 4, 5, 8, 9, 65_535, 65_536] {
+                let call = fit::<P>(w, w / 2 + 1, n, parts.min(P::most(w)));
+                let mut short = call.clone();
+                short.key.pop();
+                assert_eq!(answer(&short), 5, "one short at w {w}, n {n}, {parts}");
+                let mut long = call;
+                long.key.push(1);
+                assert_eq!(answer(&long), 5, "one long at w {w}, n {n}, {parts}");
+            }
+        }
+    }
+}
+
+fn key_of_the_wrong_kind_of_length<P: Part>() {
+    for parts in [6, 7] {
+        let words = P::words_made(16, parts);
+        // As many words as parts, with n and without; the message's words alone, and one more
+        // whatever n is, and n - 1 more; n alone; none.
+        let lengths = [parts + 3, parts, words, words + 1, words + 2, 3, 0];
+        for length in BTreeSet::from(lengths) {
+            let mut call = fit::<P>(16, 16, 3, parts);
+            call.key.resize(length, 1);
+            let due = if length == words + 3 { 0 } else { 5 };
+            assert_eq!(answer(&call), due, "{parts} parts, {length} words");
+        }
+    }
+}
+
+fn tray<P: Part>() {
+    for w in WIDTHS_OF_BYTES {
+        for n in 1..=8 {
+            for places in 0..=n as usize + 9 {
+                for parts in [4, 6] {
+                    let mut call = fit::<P>(w, 8, n, parts);
+                    call.out = vec![0xdead_beef; places];
+                    let due = if places < n as usize { 6 } else { 0 };
+                    assert_eq!(answer(&call), due, "w {w}, n {n}, {places} places");
+                }
+            }
+        }
+    }
+}
+
+/// The rows in which a word can be too large, as their numbers and lengths.
+fn rows<P: Part>(call: &Digest<P>) -> Vec<(usize, usize)> {
+    let mut call = call.clone();
+    let rows = P::rows_of_words(&mut call).into_iter();
+    rows.map(|row| row.len()).enumerate().collect()
+}
+
+/// The answer with that word at that place of that row.
+fn answer_with<P: Part>(word: u32, row: usize, place: usize, call: &Digest<P>) -> u32 {
+    let mut call = call.clone();
+    P::rows_of_words(&mut call)[row][place] = word;
+    answer(&call)
+}
+
+/// Tries the largest fit word and larger ones at that place of that row.
+fn check_word<P: Part>(row: usize, place: usize, call: &Digest<P>) {
+    let w = call.settings.width;
+    for (word, due) in [((1 << w) - 1, 0), (1 << w, 7), (u32::MAX, 7)] {
+        let number = answer_with(word, row, place, call);
+        let sizes = call.sizes();
+        assert_eq!(number, due, "{word} in row {row}, place {place}: {sizes}");
+    }
+}
+
+fn word_256_at_width_8<P: Part>() {
+    let call = fit::<P>(8, 8, 1, 3);
+    for (row, _) in rows(&call) {
+        assert_eq!(answer_with(255, row, 1, &call), 0, "row {row}");
+        assert_eq!(answer_with(256, row, 1, &call), 7, "row {row}");
+    }
+}
+
+fn word_at_every_width<P: Part>() {
+    for w in P::widths() {
+        let mut call = fit::<P>(w, w, 2, 9);
+        if w < 32 {
+            for (row, length) in rows(&call) {
+                check_word(row, length - 1, &call);
+            }
+        }
+        fill_with_the_largest(&mut call);
         assert_eq!(answer(&call), 0, "w {w}");
     }
 }
 
-#[test]
-fn key() {
-    for n in 1..=8 {
-        for t in [0, 1, 2, 5, 65_536] {
-            let call = fit(16, 9, n, t);
-            let mut short = call.clone();
-            short.key.pop();
-            assert_eq!(answer(&short), 5, "one short at n {n}, t {t}");
-            let mut long = call;
-            long.key.push(1);
-            assert_eq!(answer(&long), 5, "one long at n {n}, t {t}");
-        }
-    }
-}
-
-#[test]
-fn key_of_the_wrong_kind_of_length() {
-    // As long as the message; one more whatever n is; n alone; none.
-    for words in [6, 7, 3, 0] {
-        let mut call = fit(16, 16, 3, 6);
-        call.key.truncate(words);
-        assert_eq!(answer(&call), 5, "{words} words");
-    }
-}
-
-#[test]
-fn tray() {
-    for n in 1..=8 {
-        for places in 0..=n as usize + 9 {
-            let mut call = fit(8, 8, n, 4);
-            call.out = vec![0xdead_beef; places];
-            let due = if places < n as usize { 6 } else { 0 };
-            assert_eq!(answer(&call), due, "n {n}, {places} places");
-        }
-    }
-}
-
-#[test]
-fn word_256_at_width_8() {
-    for (word, due) in [(255, 0), (256, 7)] {
-        let mut call = fit(8, 8, 1, 3);
-        call.message[1] = word;
-        assert_eq!(answer(&call), due, "message word {word}");
-        let mut call = fit(8, 8, 1, 3);
-        call.key[1] = word;
-        assert_eq!(answer(&call), due, "key word {word}");
-    }
-}
-
-#[test]
-fn word_at_every_width() {
-    for w in 1..32 {
-        for (word, due) in [((1 << w) - 1, 0), (1 << w, 7), (u32::MAX, 7)] {
-            let mut call = fit(w, w, 2, 9);
-            call.message[8] = word;
-            assert_eq!(answer(&call), due, "w {w}, message word {word}");
-            let mut call = fit(w, w, 2, 9);
-            call.key[10] = word;
-            assert_eq!(answer(&call), due, "w {w}, key word {word}");
-        }
-    }
-    let mut call = fit(32, 32, 2, 9);
-    call.message.fill(u32::MAX);
-    call.key.fill(u32::MAX);
-    assert_eq!(answer(&call), 0);
-}
-
-#[test]
-fn word_at_every_place() {
-    for n in 1..=8 {
-        for t in [0, 1, 2, 3, 4, 7, 8, 9, 15, 16, 17, 33] {
-            let call = fit(8, 8, n, t);
-            for place in 0..t {
-                let mut call = call.clone();
-                call.message[place] = 256;
-                assert_eq!(answer(&call), 7, "n {n}, t {t}, message place {place}");
-            }
-            for place in 0..t + n as usize {
-                let mut call = call.clone();
-                call.key[place] = 256;
-                assert_eq!(answer(&call), 7, "n {n}, t {t}, key place {place}");
-            }
-        }
-    }
-}
-
-#[test]
-fn word_at_the_ends_of_the_longest_rows() {
-    let call = fit(31, 31, 8, 65_536);
-    for place in [0, 1, 32_767, 65_534, 65_535] {
-        let mut call = call.clone();
-        call.message[place] = 1 << 31;
-        assert_eq!(answer(&call), 7, "message place {place}");
-    }
-    for place in [0, 65_535, 65_536, 65_537, 65_542, 65_543] {
-        let mut call = call.clone();
-        call.key[place] = 1 << 31;
-        assert_eq!(answer(&call), 7, "key place {place}");
-    }
-}
-
-#[test]
-fn no_message() {
-    for w in [1, 8, 32] {
+fn word_at_every_place<P: Part>() {
+    for w in [8, 16] {
         for n in 1..=8 {
-            let call = fit(w, 1, n, 0);
+            for parts in (0..=20).chain([33]) {
+                let mut call = fit::<P>(w, w, n, parts);
+                call.message.fill(P::largest(w));
+                for (row, length) in rows(&call) {
+                    (0..length).for_each(|place| check_word(row, place, &call));
+                }
+            }
+        }
+    }
+}
+
+fn word_at_the_ends_of_the_longest_rows<P: Part>() {
+    for w in fit_among::<P>(&[8, 16, 31]) {
+        let call = fit::<P>(w, w, 8, P::most(w));
+        for (row, length) in rows(&call) {
+            let early = [0, 1, 32_767, 65_534, 65_535].into_iter();
+            for place in early.chain(65_536..length) {
+                let number = answer_with(1 << w, row, place, &call);
+                assert_eq!(number, 7, "w {w}, row {row}, place {place}");
+            }
+        }
+    }
+}
+
+fn no_message<P: Part>() {
+    for w in fit_among::<P>(&[1, 8, 16, 32]) {
+        for n in 1..=8 {
+            let call = fit::<P>(w, 1, n, 0);
             assert_eq!(answer(&call), 0);
             let mut out = [7; 8];
-            let number = ffi::digest_words(w, 1, n, &[], &call.key, &mut out);
+            let number = P::NUMBER(call.settings, &[], &call.key, &mut out);
             let zeros = n as usize;
             assert_eq!((number, &out[..zeros]), (0, &[0; 8][..zeros]));
             assert!(out[zeros..].iter().all(|word| *word == 7));
@@ -229,95 +287,134 @@ fn no_message() {
     }
 }
 
-#[test]
-fn empty_rows() {
-    // The same empty row for message and key, and a literal that has no allocation.
-    assert_eq!(ffi::digest_words(8, 8, 1, &[], &[], &mut []), 5);
-    assert_eq!(ffi::digest_words(8, 8, 1, &[], &[7], &mut []), 6);
-    assert_eq!(ffi::digest_words(8, 8, 1, &[7], &[], &mut []), 5);
-    assert_eq!(ffi::digest_words(8, 8, 0, &[], &[], &mut []), 3);
-    assert_eq!(ffi::digest_words(8, 0, 0, &[], &[], &mut []), 2);
-    assert_eq!(ffi::digest_words(0, 0, 0, &[], &[], &mut []), 1);
-    assert_eq!(ffi::digests_match(1, &[], &[]), 6);
-    assert_eq!(ffi::digests_match(0, &[], &[]), 3);
+/// The same empty row for message and key, and literals that have no allocation.
+fn empty_rows<P: Part>() {
+    let empty = |w, b, n| P::NUMBER(settings(w, b, n), &[], &[], &mut []);
+    assert_eq!(empty(8, 8, 1), 5);
+    assert_eq!(empty(8, 8, 0), 3);
+    assert_eq!(empty(8, 0, 0), 2);
+    assert_eq!(empty(0, 0, 0), 1);
+    let key = &[7; 2][..P::words_made(8, 0) + 1];
+    assert_eq!(P::NUMBER(settings(8, 8, 1), &[], key, &mut []), 6);
+    let message = [P::of_bits(7)];
+    assert_eq!(P::NUMBER(settings(8, 8, 1), &message, &[], &mut []), 5);
+}
+
+/// What differs between the faulty calls of the two digests.
+trait Faulty: Part {
+    fn unfit_width(width: u32) -> u32;
+
+    /// The place of an unfit word that is not the key's last.
+    fn early_word(call: &mut Digest<Self>) -> &mut u32;
+}
+
+impl Faulty for u32 {
+    fn unfit_width(_: u32) -> u32 {
+        33
+    }
+
+    fn early_word(call: &mut Digest<u32>) -> &mut u32 {
+        call.message.last_mut().unwrap()
+    }
+}
+
+impl Faulty for u8 {
+    /// A width that is fit for words only.
+    fn unfit_width(width: u32) -> u32 {
+        width + 1
+    }
+
+    fn early_word(call: &mut Digest<u8>) -> &mut u32 {
+        &mut call.key[0]
+    }
+}
+
+/// Which faults a call has, fault 1 in bit 0, and in which of two forms.
+#[derive(Clone, Copy)]
+struct Faults {
+    has: u32,
+    other_form: u32,
+}
+
+impl Faults {
+    fn pick<T>(self, fault: u32, fit: T, unfit: T, otherwise_unfit: T) -> T {
+        let set = |bits: u32| bits >> (fault - 1) & 1 == 1;
+        match (set(self.has), set(self.other_form)) {
+            (false, _) => fit,
+            (true, false) => unfit,
+            (true, true) => otherwise_unfit,
+        }
+    }
+}
+
+/// A call at that width but for its faults.
+fn faulty<P: Faulty>(width: u32, faults: Faults) -> Digest<P> {
+    let w = faults.pick(1, width, P::unfit_width(width), 0);
+    let b = faults.pick(2, width, 0, width + 26);
+    // A count of 0 has no tray that is too small, so the other form leaves that fault out.
+    let n = faults.pick(3, 3, 9, 0);
+    let many = 65_600 * P::parts_in_a_word(width);
+    let parts = faults.pick(4, 5, P::most(width) + 1, many);
+    let due = P::words_made(width, parts) + n;
+    let words = faults.pick(5, due, due - 1, due + 1);
+    let places = faults.pick(6, n, n.saturating_sub(1), 0);
+    let mut call = Digest {
+        settings: settings(w, b, n as u32),
+        message: vec![P::largest(width); parts],
+        key: vec![1; words],
+        out: vec![0xdead_beef; places],
+    };
+    let [early, last] = faults.pick(7, [false; 2], [true, false], [false, true]);
+    if early {
+        *P::early_word(&mut call) = 1 << width;
+    }
+    if last {
+        *call.key.last_mut().unwrap() = 1 << width;
+    }
+    call
 }
 
 /// Every set of faults: the answer is the least of their numbers.
-#[test]
-fn order_of_the_digest_tests() {
+fn order_of_the_tests<P: Faulty>() {
     let mut seen = [0; 8];
-    for faults in 0..128u32 {
-        // Each fault has two forms, too small and too large.
-        for forms in 0..128u32 {
-            if forms & !faults != 0 {
-                continue;
+    for width in [8, 16] {
+        for has in 0..128u32 {
+            for other_form in (0..128).filter(|forms| forms & !has == 0) {
+                let call = faulty::<P>(width, Faults { has, other_form });
+                let due = match has {
+                    0 => 0,
+                    _ => has.trailing_zeros() + 1,
+                };
+                let number = answer(&call);
+                let faults = format!("{has:07b} in forms {other_form:07b}");
+                assert_eq!(number, due, "width {width}, faults {faults}");
+                seen[number as usize] += 1;
             }
-            let call = faulty(faults, forms);
-            let due = if faults == 0 {
-                0
-            } else {
-                faults.trailing_zeros() + 1
-            };
-            let number = answer(&call);
-            assert_eq!(number, due, "faults {faults:07b} in forms {forms:07b}");
-            seen[number as usize] += 1;
         }
     }
-    println!("order_of_the_digest_tests: answers 0 to 7 were seen {seen:?} times");
+    let entry = P::ENTRY;
+    println!("order_of_the_tests of {entry}: answers 0 to 7 were seen {seen:?} times");
 }
 
-/// A call with the faults whose bits are set, fault 1 in bit 0.
-fn faulty(faults: u32, forms: u32) -> Digest {
-    let has = |number: u32| faults >> (number - 1) & 1 == 1;
-    let other = |number: u32| forms >> (number - 1) & 1 == 1;
-    let w = match (has(1), other(1)) {
-        (false, _) => 8,
-        (true, false) => 33,
-        (true, true) => 0,
-    };
-    let b = match (has(2), other(2)) {
-        (false, _) => 8,
-        (true, false) => 0,
-        (true, true) => 34,
-    };
-    // A count of 0 has no tray that is too small, so the other form leaves that fault out.
-    let n: u32 = match (has(3), other(3)) {
-        (false, _) => 3,
-        (true, false) => 9,
-        (true, true) => 0,
-    };
-    let t = match (has(4), other(4)) {
-        (false, _) => 5,
-        (true, false) => 65_537,
-        (true, true) => 65_600,
-    };
-    let words = match (has(5), other(5)) {
-        (false, _) => t + n as usize,
-        (true, false) => t + n as usize - 1,
-        (true, true) => t + n as usize + 1,
-    };
-    let places = match (has(6), other(6)) {
-        (false, _) => n as usize,
-        (true, false) => (n as usize).saturating_sub(1),
-        (true, true) => 0,
-    };
-    let mut message = vec![255; t];
-    let mut key = vec![1; words];
-    if has(7) {
-        if other(7) {
-            *key.last_mut().unwrap() = 256;
-        } else {
-            message[t - 1] = 256;
-        }
+fn results_name_the_refusals<P: Faulty>() {
+    use Refusal::{Count, Kept, Key, Long, Tray, Width, Word};
+    let refusals = [Width, Kept, Count, Long, Key, Tray, Word];
+    for (bit, refusal) in refusals.into_iter().enumerate() {
+        let (has, other_form) = (1 << bit, 0);
+        let call = faulty::<P>(8, Faults { has, other_form });
+        let mut out = call.out.clone();
+        let result = P::RESULT(call.settings, &call.message, &call.key, &mut out);
+        assert_eq!((result, out), (Err(refusal), call.out));
     }
-    Digest {
-        w,
-        b,
-        n,
-        message,
-        key,
-        out: vec![0xdead_beef; places],
-    }
+}
+
+fn match_answer(words: u32, first: &[u32], second: &[u32]) -> u32 {
+    let call = Match {
+        words,
+        first: first.to_vec(),
+        second: second.to_vec(),
+    };
+    call.check(&mut Random::new(6))
 }
 
 #[test]
@@ -364,19 +461,15 @@ fn order_of_the_match_tests() {
 }
 
 #[test]
-fn results_name_the_refusals() {
-    let mut out = [3; 2];
-    let result = pairing_agent::digest_words(8, 8, 2, &[1], &[1, 2], &mut out);
-    assert_eq!(result, Err(Refusal::Key));
-    assert_eq!(out, [3; 2]);
-    assert_eq!(
-        pairing_agent::digests_match(9, &[], &[]),
-        Err(Refusal::Count)
-    );
-    assert_eq!(
-        pairing_agent::digests_match(1, &[1], &[]),
-        Err(Refusal::Tray)
-    );
-    assert_eq!(pairing_agent::digests_match(1, &[1], &[1]), Ok(true));
-    assert_eq!(pairing_agent::digests_match(1, &[1], &[2]), Ok(false));
+fn match_of_empty_rows() {
+    assert_eq!(ffi::digests_match(1, &[], &[]), 6);
+    assert_eq!(ffi::digests_match(0, &[], &[]), 3);
+}
+
+#[test]
+fn match_results_name_the_refusals() {
+    assert_eq!(digests_match(9, &[], &[]), Err(Refusal::Count));
+    assert_eq!(digests_match(1, &[1], &[]), Err(Refusal::Tray));
+    assert_eq!(digests_match(1, &[1], &[1]), Ok(true));
+    assert_eq!(digests_match(1, &[1], &[2]), Ok(false));
 }

@@ -4,7 +4,7 @@
 
 mod common;
 
-use common::calls::{Digest, Stretch};
+use common::calls::{settings, Call, Digest, Stretch};
 use common::mt19937::Generator;
 use common::random::Random;
 use pairing_agent::{ffi, Refusal};
@@ -27,10 +27,10 @@ const SEEDS: [u32; 8] = [
     u32::MAX,
 ];
 
-fn answer(w: u32, seed: u32, words: usize) -> u32 {
+fn answer(width: u32, seed: u32, words: usize) -> u32 {
     let mut random = Random::new(u64::from(seed));
     let out = random.row(words);
-    Stretch { w, seed, out }.check(&mut random)
+    Stretch { width, seed, out }.check(&mut random)
 }
 
 /// The row of an accepted call.
@@ -163,15 +163,8 @@ fn a_stretched_row_is_a_key() {
     let mut random = Random::new(11);
     for w in 1..=32 {
         for t in [0, 1, 623, 65_536] {
-            let message = random.row(t).iter().map(|m| m >> (32 - w)).collect();
-            let call = Digest {
-                w,
-                b: w,
-                n: 8,
-                message,
-                key: stretched(w, random.word(), t + 8),
-                out: vec![0xdead_beef; 8],
-            };
+            let mut call = Digest::<u32>::fit(settings(w, w, 8), t);
+            call.key = stretched(w, random.word(), t + 8);
             assert_eq!(call.check(&mut random), 0, "w {w}, t {t}");
         }
     }

@@ -4,23 +4,22 @@
 
 mod common;
 
-use common::calls::{Digest, Match};
+use common::calls::{settings, Call, Digest, Match};
 use common::random::Random;
 use pairing_agent::{digest_bytes, digest_words, digests_match};
 
 /// The digest, in a row that has one place more than it needs.
 fn worked(w: u32, b: u32, n: u32, message: &[u32], key: &[u32]) -> Vec<u32> {
     let call = Digest {
-        w,
-        b,
-        n,
+        settings: settings(w, b, n),
         message: message.to_vec(),
         key: key.to_vec(),
         out: vec![0x5555_5555; n as usize + 1],
     };
     assert_eq!(call.check(&mut Random::new(1)), 0);
     let mut out = call.out;
-    assert_eq!(digest_words(w, b, n, message, key, &mut out), Ok(()));
+    let result = digest_words(call.settings, message, key, &mut out);
+    assert_eq!(result, Ok(()));
     assert_eq!(out.pop(), Some(0x5555_5555));
     out
 }
@@ -63,9 +62,10 @@ fn case_h() {
     for n in 1..=8 {
         for b in 1..=16 {
             let key: Vec<u32> = random.row(2 + n).iter().map(|k| k >> 16).collect();
+            let settings = settings(16, b, n as u32);
             let digest = worked(16, b, n as u32, &[0x0201, 0x0003], &key);
             let mut out = random.row(n);
-            let result = digest_bytes(16, b, n as u32, &[0x01, 0x02, 0x03], &key, &mut out);
+            let result = digest_bytes(settings, &[0x01, 0x02, 0x03], &key, &mut out);
             assert_eq!((result, out), (Ok(()), digest));
         }
     }
@@ -116,9 +116,7 @@ fn all_calls_of_the_smallest_sizes() {
             for message in rows(w, t) {
                 for key in rows(w, t + n) {
                     let call = Digest {
-                        w,
-                        b,
-                        n,
+                        settings: settings(w, b, n),
                         message: message.clone(),
                         key,
                         out: random.row(n as usize),
@@ -138,7 +136,7 @@ fn a_difference_at_any_place_and_bit_is_no_match() {
     for n in 1..=8 {
         let first = random.row(n as usize);
         let mut call = Match {
-            n,
+            words: n,
             second: first.clone(),
             first,
         };

@@ -1,108 +1,163 @@
 //! Calls of each entry, checked against the independent implementations.
 
-use super::lent::Lent;
+use super::lent::{Lent, Place};
 use super::mt19937;
-use super::paper;
+use super::paper::{self, Outcome};
+use super::part::Part;
 use super::random::Random;
-use pairing_agent::{ffi, Refusal};
+use pairing_agent::{ffi, Refusal, Settings};
+use std::fmt::Debug;
 
-/// A call of the word digest.
-#[derive(Clone)]
-pub struct Digest {
-    pub w: u32,
-    pub b: u32,
-    pub n: u32,
-    pub message: Vec<u32>,
+/// A call of one entry.
+pub trait Call: Debug {
+    /// The entry's name.
+    const ENTRY: &'static str;
+
+    /// What the call must answer and leave, by the implementations beside this file.
+    fn due(&self) -> Outcome;
+
+    /// Makes the call as a number, on rows between guards.
+    fn number(&self, due: &Outcome, random: &mut Random) -> Made;
+
+    /// Makes the call as a result, on rows of their own allocations, whose ends valgrind sees.
+    fn result(&self, due: &Outcome) -> Made;
+
+    /// The call's numbers, and how long its rows are.
+    fn sizes(&self) -> String;
+
+    /// Makes the call twice and compares its answers and every row with what is due.
+    fn make(&self, due: &Outcome, random: &mut Random) -> Made {
+        let mut made = self.number(due, random);
+        // The safe call panics at a number that is no answer.
+        if made.answer == due.answer {
+            let wrong = self.result(due).wrong.into_iter();
+            made.wrong
+                .extend(wrong.map(|name| name + " of the safe call"));
+        }
+        made
+    }
+
+    /// What was wrong, and the start of what the entry was called with.
+    fn report(&self, made: &Made, due: &Outcome) -> String {
+        let text = format!(
+            "{}: wrong {}, with {}; answer {}, due {due:x?}, {self:x?}",
+            Self::ENTRY,
+            made.wrong.join(" and "),
+            self.sizes(),
+            made.answer
+        );
+        text.chars().take(600).collect()
+    }
+
+    /// Makes the call twice and returns its answer, having checked the answers and every row.
+    fn check(&self, random: &mut Random) -> u32 {
+        let due = self.due();
+        let made = self.make(&due, random);
+        assert!(made.wrong.is_empty(), "{}", self.report(&made, &due));
+        made.answer
+    }
+}
+
+/// What came of a call: its answer, and the names of what was wrong.
+pub struct Made {
+    pub answer: u32,
+    pub wrong: Vec<String>,
+}
+
+impl Made {
+    /// `rows` says of each row whether it is as it must be.
+    fn new(answer: u32, due: &Outcome, rows: &[(&str, bool)]) -> Made {
+        let answered = [("answer", answer == due.answer)];
+        let wrong = answered.iter().chain(rows).filter(|(_, right)| !right);
+        Made {
+            answer,
+            wrong: wrong.map(|(name, _)| (*name).to_owned()).collect(),
+        }
+    }
+}
+
+/// The number that stands for a result.
+fn number_of(result: Result<(), Refusal>) -> u32 {
+    result.map_or_else(Refusal::number, |()| 0)
+}
+
+fn boxed<P: Place>(row: &[P]) -> Box<[P]> {
+    row.into()
+}
+
+/// Width, kept bits and digest words, in the paper's order.
+pub fn settings(w: u32, b: u32, n: u32) -> Settings {
+    Settings {
+        width: w,
+        kept: b,
+        words: n,
+    }
+}
+
+/// A call of the digest of words or of bytes.
+#[derive(Clone, Debug)]
+pub struct Digest<P> {
+    pub settings: Settings,
+    pub message: Vec<P>,
     pub key: Vec<u32>,
     pub out: Vec<u32>,
 }
 
-impl Digest {
-    /// Makes the call twice and returns its answer, having checked the answer and every row.
-    pub fn check(&self, random: &mut Random) -> u32 {
-        let Digest { w, b, n, .. } = *self;
-        let due = paper::digest_words(w, b, n, &self.message, &self.key, &self.out);
+impl<P: Part> Digest<P> {
+    /// A call that is accepted, of that many message parts.
+    pub fn fit(settings: Settings, parts: usize) -> Digest<P> {
+        let w = settings.width;
+        let n = settings.words as usize;
+        let mut random = Random::new(u64::from(w) + 100 * parts as u64);
+        let message = (0..parts).map(|_| P::of_bits(random.word() >> (32 - P::bits(w))));
+        Digest {
+            settings,
+            message: message.collect(),
+            key: (0..P::words_made(w, parts) + n)
+                .map(|_| random.word() >> (32 - w))
+                .collect(),
+            out: vec![0xdead_beef; n],
+        }
+    }
+}
 
-        // As numbers, on rows between guards.
+impl<P: Part> Call for Digest<P> {
+    const ENTRY: &'static str = P::ENTRY;
+
+    fn due(&self) -> Outcome {
+        P::DUE(self.settings, &self.message, &self.key, &self.out)
+    }
+
+    fn number(&self, due: &Outcome, random: &mut Random) -> Made {
         let message = Lent::new(&self.message, random);
         let key = Lent::new(&self.key, random);
         let mut out = Lent::new(&self.out, random);
-        let answer = ffi::digest_words(w, b, n, message.row(), key.row(), out.row_mut());
-        assert_eq!(answer, due.answer, "answer of {}", self.sizes());
-        assert!(out.is_now(&due.out), "output of {}", self.sizes());
-        assert!(message.is_as_lent(), "message of {}", self.sizes());
-        assert!(key.is_as_lent(), "key of {}", self.sizes());
+        let answer = P::NUMBER(self.settings, message.row(), key.row(), out.row_mut());
+        let rows = [
+            ("output", out.is_now(&due.out)),
+            ("message", message.is_as_lent()),
+            ("key", key.is_as_lent()),
+        ];
+        Made::new(answer, due, &rows)
+    }
 
-        // As a result, on rows of their own allocations, whose ends valgrind sees.
-        let message = self.message.clone().into_boxed_slice();
-        let key = self.key.clone().into_boxed_slice();
-        let mut out = self.out.clone().into_boxed_slice();
-        let result = pairing_agent::digest_words(w, b, n, &message, &key, &mut out);
-        assert_eq!(result, result_due(answer), "result of {}", self.sizes());
-        assert_eq!(*out, due.out, "second output of {}", self.sizes());
-        assert_eq!(*message, self.message, "second message of {}", self.sizes());
-        assert_eq!(*key, self.key, "second key of {}", self.sizes());
-        answer
+    fn result(&self, due: &Outcome) -> Made {
+        let message = boxed(&self.message);
+        let key = boxed(&self.key);
+        let mut out = boxed(&self.out);
+        let result = P::RESULT(self.settings, &message, &key, &mut out);
+        let rows = [
+            ("output", *out == due.out),
+            ("message", *message == self.message),
+            ("key", *key == self.key),
+        ];
+        Made::new(number_of(result), due, &rows)
     }
 
     fn sizes(&self) -> String {
         format!(
-            "w {}, b {}, n {}, message of {}, key of {}, output of {}",
-            self.w,
-            self.b,
-            self.n,
-            self.message.len(),
-            self.key.len(),
-            self.out.len()
-        )
-    }
-}
-
-/// A call of the byte digest.
-#[derive(Clone)]
-pub struct DigestBytes {
-    pub w: u32,
-    pub b: u32,
-    pub n: u32,
-    pub message: Vec<u8>,
-    pub key: Vec<u32>,
-    pub out: Vec<u32>,
-}
-
-impl DigestBytes {
-    /// Makes the call twice and returns its answer, having checked the answer and every row.
-    pub fn check(&self, random: &mut Random) -> u32 {
-        let DigestBytes { w, b, n, .. } = *self;
-        let due = paper::digest_bytes(w, b, n, &self.message, &self.key, &self.out);
-
-        // As numbers, on rows between guards.
-        let message = Lent::new(&self.message, random);
-        let key = Lent::new(&self.key, random);
-        let mut out = Lent::new(&self.out, random);
-        let answer = ffi::digest_bytes(w, b, n, message.row(), key.row(), out.row_mut());
-        assert_eq!(answer, due.answer, "answer of {}", self.sizes());
-        assert!(out.is_now(&due.out), "output of {}", self.sizes());
-        assert!(message.is_as_lent(), "message of {}", self.sizes());
-        assert!(key.is_as_lent(), "key of {}", self.sizes());
-
-        // As a result, on rows of their own allocations, whose ends valgrind sees.
-        let message = self.message.clone().into_boxed_slice();
-        let key = self.key.clone().into_boxed_slice();
-        let mut out = self.out.clone().into_boxed_slice();
-        let result = pairing_agent::digest_bytes(w, b, n, &message, &key, &mut out);
-        assert_eq!(result, result_due(answer), "result of {}", self.sizes());
-        assert_eq!(*out, due.out, "second output of {}", self.sizes());
-        assert_eq!(*message, self.message, "second message of {}", self.sizes());
-        assert_eq!(*key, self.key, "second key of {}", self.sizes());
-        answer
-    }
-
-    fn sizes(&self) -> String {
-        format!(
-            "w {}, b {}, n {}, message of {} bytes, key of {}, output of {}",
-            self.w,
-            self.b,
-            self.n,
+            "{:?}, message of {}, key of {}, output of {}",
+            self.settings,
             self.message.len(),
             self.key.len(),
             self.out.len()
@@ -111,74 +166,94 @@ impl DigestBytes {
 }
 
 /// A call of the stretch.
-#[derive(Clone)]
+#[derive(Clone, Debug)]
 pub struct Stretch {
-    pub w: u32,
+    pub width: u32,
     pub seed: u32,
     pub out: Vec<u32>,
 }
 
-impl Stretch {
-    /// Makes the call twice and returns its answer, having checked the answer and the row.
-    pub fn check(&self, random: &mut Random) -> u32 {
-        let Stretch { w, seed, .. } = *self;
-        let due = mt19937::stretch(w, seed, &self.out);
-        let sizes = format!("w {w}, seed {seed}, output of {}", self.out.len());
+impl Call for Stretch {
+    const ENTRY: &'static str = "stretch";
 
+    fn due(&self) -> Outcome {
+        mt19937::stretch(self.width, self.seed, &self.out)
+    }
+
+    fn number(&self, due: &Outcome, random: &mut Random) -> Made {
         let mut out = Lent::new(&self.out, random);
-        let answer = ffi::stretch(w, seed, out.row_mut());
-        assert_eq!(answer, due.answer, "answer of {sizes}");
-        assert!(out.is_now(&due.out), "output of {sizes}");
+        let answer = ffi::stretch(self.width, self.seed, out.row_mut());
+        let rows = [("output", out.is_now(&due.out))];
+        Made::new(answer, due, &rows)
+    }
 
-        let mut out = self.out.clone().into_boxed_slice();
-        let result = pairing_agent::stretch(w, seed, &mut out);
-        assert_eq!(result, result_due(answer), "result of {sizes}");
-        assert!(*out == due.out, "second output of {sizes}");
-        answer
+    fn result(&self, due: &Outcome) -> Made {
+        let mut out = boxed(&self.out);
+        let result = pairing_agent::stretch(self.width, self.seed, &mut out);
+        let rows = [("output", *out == due.out)];
+        Made::new(number_of(result), due, &rows)
+    }
+
+    fn sizes(&self) -> String {
+        let Stretch { width, seed, out } = self;
+        format!("width {width}, seed {seed}, output of {}", out.len())
     }
 }
 
 /// A call of the match.
-#[derive(Clone)]
+#[derive(Clone, Debug)]
 pub struct Match {
-    pub n: u32,
+    pub words: u32,
     pub first: Vec<u32>,
     pub second: Vec<u32>,
 }
 
-impl Match {
-    /// Makes the call twice and returns its answer, having checked the answer and both rows.
-    pub fn check(&self, random: &mut Random) -> u32 {
-        let n = self.n;
-        let due = paper::match_answer(n, &self.first, &self.second);
-        let sizes = format!("n {n}, rows {:x?} and {:x?}", self.first, self.second);
+impl Call for Match {
+    const ENTRY: &'static str = "digests_match";
 
+    fn due(&self) -> Outcome {
+        Outcome {
+            answer: paper::match_answer(self.words, &self.first, &self.second),
+            out: vec![],
+        }
+    }
+
+    fn number(&self, due: &Outcome, random: &mut Random) -> Made {
         let first = Lent::new(&self.first, random);
         let second = Lent::new(&self.second, random);
-        let answer = ffi::digests_match(n, first.row(), second.row());
-        assert_eq!(answer, due, "answer of {sizes}");
-        assert!(first.is_as_lent() && second.is_as_lent(), "rows of {sizes}");
-
-        let first = self.first.clone().into_boxed_slice();
-        let second = self.second.clone().into_boxed_slice();
-        let result = pairing_agent::digests_match(n, &first, &second);
-        let result_due = match answer {
-            100 => Ok(true),
-            101 => Ok(false),
-            number => Err(Refusal::from_number(number).unwrap()),
-        };
-        assert_eq!(result, result_due, "result of {sizes}");
-        assert!(
-            *first == self.first && *second == self.second,
-            "second rows of {sizes}"
-        );
-        answer
+        let answer = ffi::digests_match(self.words, first.row(), second.row());
+        let rows = [
+            ("first row", first.is_as_lent()),
+            ("second row", second.is_as_lent()),
+        ];
+        Made::new(answer, due, &rows)
     }
-}
 
-fn result_due(answer: u32) -> Result<(), Refusal> {
-    match answer {
-        0 => Ok(()),
-        number => Err(Refusal::from_number(number).unwrap()),
+    fn result(&self, due: &Outcome) -> Made {
+        let first = boxed(&self.first);
+        let second = boxed(&self.second);
+        let number = match pairing_agent::digests_match(self.words, &first, &second) {
+            Ok(true) => 100,
+            Ok(false) => 101,
+            Err(refusal) => refusal.number(),
+        };
+        let rows = [
+            ("first row", *first == self.first),
+            ("second row", *second == self.second),
+        ];
+        Made::new(number, due, &rows)
+    }
+
+    fn sizes(&self) -> String {
+        let Match {
+            words,
+            first,
+            second,
+        } = self;
+        format!(
+            "{words} words, rows of {} and {}",
+            first.len(),
+            second.len()
+        )
     }
 }

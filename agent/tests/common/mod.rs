@@ -1,10 +1,22 @@
-//! What the tests share: independent implementations, random numbers, and guarded rows.
+//! What the tests share: independent implementations, random calls, and guarded rows.
 
 // Each test file is a program of its own and uses its own part of this.
 #![allow(dead_code)]
 
 pub mod calls;
+pub mod cases;
 pub mod lent;
 pub mod mt19937;
 pub mod paper;
+pub mod part;
 pub mod random;
+
+/// The number that the environment sets under that name, or else the other.
+pub fn from_environment(name: &str, otherwise: u64) -> u64 {
+    match std::env::var(name) {
+        Ok(number) => number
+            .parse()
+            .unwrap_or_else(|_| panic!("{name} is no number")),
+        Err(_) => otherwise,
+    }
+}

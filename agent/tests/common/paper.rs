@@ -1,5 +1,14 @@
 //! What the library must answer, written from the paper's equations and the table of answers, in
-//! whole numbers of 128 bits and with no eye to speed. It shares nothing with the library.
+//! whole numbers of 128 bits and with no eye to speed. It shares nothing with the library but the
+//! names of the settings.
+
+use pairing_agent::Settings;
+
+/// The most words of a message.
+pub const MOST_WORDS: usize = 65_536;
+
+/// The widths at which bytes fill words.
+pub const WIDTHS_OF_BYTES: [u32; 3] = [8, 16, 32];
 
 /// What a call leaves: its answer, and the output row.
 #[derive(Debug, PartialEq, Eq)]
@@ -9,18 +18,20 @@ pub struct Outcome {
 }
 
 /// The word digest as a whole call.
-pub fn digest_words(w: u32, b: u32, n: u32, message: &[u32], key: &[u32], out: &[u32]) -> Outcome {
-    let answer = digest_answer(w, b, n, message, key, out.len());
+pub fn digest_words(settings: Settings, message: &[u32], key: &[u32], out: &[u32]) -> Outcome {
+    let answer = digest_answer(settings, message, key, out.len());
     let mut out = out.to_vec();
     if answer == 0 {
-        for i in 1..=n as usize {
-            out[i - 1] = digest_word(w, b, i, message, key);
+        for i in 1..=settings.words as usize {
+            out[i - 1] = digest_word(settings, i, message, key);
         }
     }
     Outcome { answer, out }
 }
 
-fn digest_answer(w: u32, b: u32, n: u32, message: &[u32], key: &[u32], places: usize) -> u32 {
+fn digest_answer(settings: Settings, message: &[u32], key: &[u32], places: usize) -> u32 {
+    let (w, b) = (settings.width, settings.kept);
+    let n = settings.words as usize;
     if w == 0 || w > 32 {
         return 1;
     }
@@ -30,13 +41,13 @@ fn digest_answer(w: u32, b: u32, n: u32, message: &[u32], key: &[u32], places: u
     if n == 0 || n > 8 {
         return 3;
     }
-    if message.len() > 65_536 {
+    if message.len() > MOST_WORDS {
         return 4;
     }
-    if key.len() != message.len() + n as usize {
+    if key.len() != message.len() + n {
         return 5;
     }
-    if places < n as usize {
+    if places < n {
         return 6;
     }
     let size = two_to(w);
@@ -49,24 +60,31 @@ fn digest_answer(w: u32, b: u32, n: u32, message: &[u32], key: &[u32], places: u
 }
 
 /// The byte digest as a whole call: but for the width, the digest of the words that the bytes make.
-pub fn digest_bytes(w: u32, b: u32, n: u32, message: &[u8], key: &[u32], out: &[u32]) -> Outcome {
-    if ![8, 16, 32].contains(&w) {
+pub fn digest_bytes(settings: Settings, message: &[u8], key: &[u32], out: &[u32]) -> Outcome {
+    if !WIDTHS_OF_BYTES.contains(&settings.width) {
         return Outcome {
             answer: 1,
             out: out.to_vec(),
         };
     }
-    digest_words(w, b, n, &words_of_bytes(w, message), key, out)
+    let words = words_of_bytes(settings.width, message);
+    digest_words(settings, &words, key, out)
 }
 
 /// The first byte lowest; bytes that the last word lacks count as zero.
 pub fn words_of_bytes(w: u32, bytes: &[u8]) -> Vec<u32> {
     let in_a_word = w as usize / 8;
-    let mut words = vec![0; bytes.len().div_ceil(in_a_word)];
+    let mut words = vec![0; words_made(w, bytes.len())];
     for (i, byte) in bytes.iter().enumerate() {
         words[i / in_a_word] += u32::from(*byte) * 256u32.pow((i % in_a_word) as u32);
     }
     words
+}
+
+/// How many words that many bytes make; the most of a `usize` where it cannot hold them.
+pub fn words_made(w: u32, bytes: usize) -> usize {
+    let words = (bytes as u128).div_ceil(u128::from(w) / 8);
+    usize::try_from(words).unwrap_or(usize::MAX)
 }
 
 /// The match as a whole call.
@@ -85,9 +103,9 @@ pub fn match_answer(n: u32, first: &[u32], second: &[u32]) -> u32 {
 }
 
 /// Digest word i, counted from 1 (section 5.3), its low b bits (equation 5).
-fn digest_word(w: u32, b: u32, i: usize, message: &[u32], key: &[u32]) -> u32 {
+fn digest_word(settings: Settings, i: usize, message: &[u32], key: &[u32]) -> u32 {
     let t = message.len();
-    let word = one_word(w, message, &key[i - 1..t + i]) % two_to(b);
+    let word = one_word(settings.width, message, &key[i - 1..t + i]) % two_to(settings.kept);
     u32::try_from(word).unwrap()
 }
 

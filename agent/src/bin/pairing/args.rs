@@ -1,7 +1,10 @@
 //! A command's options and operands.
 
-use crate::{arguments, input, unusable, Failure};
+use crate::ending::{usage, Failure};
+use crate::number;
+use crate::show::shown;
 use std::ffi::{OsStr, OsString};
+use std::os::unix::ffi::OsStrExt;
 
 /// What follows a command's name. Options take a value each, as `--width 8` or `--width=8`, and
 /// stand anywhere; after `--` everything is an operand.
@@ -25,22 +28,12 @@ impl Args {
         };
         let mut args = args.into_iter();
         while let Some(arg) = args.next() {
-            let text = arg.to_str().unwrap_or_default();
-            if text == "--" {
+            if arg == "--" {
                 parsed.operands.extend(args.by_ref());
-            } else if text.starts_with('-') && text != "-" {
-                let (name, value) = match text.split_once('=') {
-                    Some((name, value)) => (name, Some(OsString::from(value))),
-                    None => (text, None),
-                };
-                let Some(name) = known.iter().copied().find(|option| *option == name) else {
-                    return Err(arguments(format!("{name} is no option here")));
-                };
-                if parsed.options.iter().any(|(given, _)| *given == name) {
-                    return Err(arguments(format!("{name} is given twice")));
-                }
-                let Some(value) = value.or_else(|| args.next()) else {
-                    return Err(arguments(format!("{name} needs a value")));
+            } else if arg.as_bytes().starts_with(b"-") && arg != "-" {
+                let (name, value) = parsed.option(&arg, known)?;
+                let Some(value) = value.map(OsString::from).or_else(|| args.next()) else {
+                    return Err(usage(format!("{name} needs a value")));
                 };
                 parsed.options.push((name, value));
             } else {
@@ -48,6 +41,23 @@ impl Args {
             }
         }
         Ok(parsed)
+    }
+
+    /// The known option that an argument names, and its value if one follows an equals sign.
+    fn option<'a>(
+        &self,
+        arg: &'a OsStr,
+        known: &[&'static str],
+    ) -> Result<(&'static str, Option<&'a OsStr>), Failure> {
+        let mut parts = arg.as_bytes().splitn(2, |byte| *byte == b'=');
+        let given = OsStr::from_bytes(parts.next().unwrap_or_default());
+        let Some(name) = known.iter().copied().find(|name| given == *name) else {
+            return Err(usage(format!("{} is no option here", shown(given))));
+        };
+        match self.value(name) {
+            Some(_) => Err(usage(format!("{name} is given twice"))),
+            None => Ok((name, parts.next().map(OsStr::from_bytes))),
+        }
     }
 
     /// The option's value, if it is given.
@@ -67,24 +77,30 @@ impl Args {
 
     /// The value of an option that must be given, as a number.
     pub fn needed_number(&self, name: &str) -> Result<u32, Failure> {
-        self.number(name)?
-            .ok_or_else(|| arguments(format!("{name} is missing")))
+        self.number(name)?.ok_or_else(|| missing(name))
     }
 
     /// The operands, which must be those named.
     pub fn operands<const N: usize>(&self, names: [&str; N]) -> Result<[&OsStr; N], Failure> {
         if let Some(name) = names.get(self.operands.len()) {
-            return Err(arguments(format!("{name} is missing")));
+            return Err(missing(name));
         }
-        if let Some(extra) = self.operands.get(N) {
-            let extra = extra.to_string_lossy();
-            return Err(arguments(format!("{extra} is one argument too many")));
+        match self.operands.get(N) {
+            Some(extra) => Err(too_many(extra)),
+            None => Ok(std::array::from_fn(|i| self.operands[i].as_os_str())),
         }
-        Ok(std::array::from_fn(|i| self.operands[i].as_os_str()))
     }
 }
 
 /// The number that an argument holds.
 pub fn number(name: &str, value: &OsStr) -> Result<u32, Failure> {
-    input::number(&value.to_string_lossy()).map_err(|why| unusable(format!("{name}: {why}")))
+    number::number(&value.to_string_lossy()).map_err(|why| usage(format!("{name}: {why}")))
+}
+
+pub fn missing(name: &str) -> Failure {
+    usage(format!("{name} is missing"))
+}
+
+pub fn too_many(extra: &OsStr) -> Failure {
+    usage(format!("{} is one argument too many", shown(extra)))
 }

@@ -1,11 +1,14 @@
 //! `pairing count`: the class's count at a small width.
 
 use crate::args::Args;
-use crate::{histogram, picture, unusable, Answer, Failure};
-use pairing_agent::Refusal;
+use crate::ending::{usage, Answer, Failure};
+use crate::output::{self, cannot_write};
+use crate::show::quoted;
+use crate::{histogram, picture, refused};
+use pairing_agent::{Refusal, Settings};
 use std::collections::BTreeMap;
 use std::fs::File;
-use std::io::{IsTerminal, Write};
+use std::io::IsTerminal;
 
 pub const HELP: &str = "\
 The largest count of keys under which two different messages have one digest.
@@ -30,38 +33,39 @@ const REPORTED: (u32, u32) = (7, 240);
 pub fn run(args: Args) -> Result<Answer, Failure> {
     let w = args.needed_number("--width")?;
     let [] = args.operands([])?;
+    let refused = |refusal| refused::width(refusal, w);
     // The library's word on the width comes first.
-    digest(w, 0, [0, 0])?;
+    digest(w, 0, [0, 0]).map_err(refused)?;
     if w > WIDEST {
-        return Err(unusable(too_wide(w)));
+        return Err(usage(too_wide(w)));
     }
     // Opened before the count, so that a file that cannot be written costs no wait.
     let svg = match args.value("--svg") {
         Some(file) => {
-            let name = format!("'{}'", file.to_string_lossy());
+            let name = quoted(file);
             let opened = File::create(file);
             Some((opened.map_err(|error| cannot_write(&name, &error))?, name))
         }
         None => None,
     };
-    let count = Count::run(w)?;
-    if let Some((mut file, name)) = svg {
-        file.write_all(picture::draw(&count).as_bytes())
-            .map_err(|error| cannot_write(&name, &error))?;
+    let count = Count::run(w).map_err(refused)?;
+    if let Some((file, name)) = svg {
+        output::write(file, &picture::draw(&count)).map_err(|error| cannot_write(&name, &error))?;
     }
     Ok(Answer::accepted(
         count.summary() + "\n" + &histogram::draw(&count.pairs_at),
     ))
 }
 
-fn cannot_write(name: &str, error: &std::io::Error) -> Failure {
-    unusable(format!("cannot write {name}: {error}"))
-}
-
 /// The digest of a one-word message, computed by the proved library.
 fn digest(w: u32, message: u32, key: [u32; 2]) -> Result<u32, Refusal> {
+    let settings = Settings {
+        width: w,
+        kept: w,
+        words: 1,
+    };
     let mut out = [0];
-    pairing_agent::digest_words(w, w, 1, &[message], &key, &mut out)?;
+    pairing_agent::digest_words(settings, &[message], &key, &mut out)?;
     Ok(out[0])
 }
 
@@ -210,14 +214,14 @@ impl Progress {
         let percent = done * 100 / all;
         if self.terminal && self.shown != Some(percent) {
             self.shown = Some(percent);
-            eprint!("\rcounting: {percent} % of the keys");
+            output::tell(&format!("\rcounting: {percent} % of the keys"));
         }
     }
 
     /// Takes the line away.
     fn end(self) {
         if self.terminal {
-            eprint!("\r\x1b[K");
+            output::tell("\r\x1b[K");
         }
     }
 }

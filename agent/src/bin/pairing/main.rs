@@ -3,80 +3,61 @@
 //! Every digest, key and match is the proved library's. Settings and lengths go to it as they
 //! were given, and its answer decides.
 
-#![forbid(unsafe_code)]
+#![deny(unsafe_code)]
 
 mod args;
 mod count;
 mod digest;
+mod ending;
 mod explain;
 mod histogram;
 mod input;
 mod matching;
+mod message;
+mod number;
+mod output;
 mod picture;
+mod refused;
+mod seed;
+mod show;
+// Whether a standard stream is closed can be seen only before Rust's runtime starts, by a C call.
+#[allow(unsafe_code)]
+mod stdio;
 mod stretch;
 
 use args::Args;
-use pairing_agent::Refusal;
-use std::ffi::OsString;
-use std::io::{ErrorKind, Write};
+use ending::{usage, Answer, Failure};
+use show::shown;
+use std::ffi::{OsStr, OsString};
 use std::process::ExitCode;
-
-const REFUSED: u8 = 2;
-const BAD_USAGE: u8 = 64;
 
 const HELP: &str = "\
 Short digests for pairing, computed by the proved library.
 
 Usage: pairing COMMAND ...
 
-  digest    the digest of a file's bytes
-  words     the digest of a row of words
-  stretch   key words from a seed
-  match     whether two digests agree
-  count     the largest count of keys under which two messages agree
-  explain   what an answer's number means, and what to do
+  digest         the digest of a file's bytes
+  digest-words   the digest of a row of words
+  stretch        key words from a seed
+  match          whether two digests agree
+  count          the largest count of keys under which two messages agree
+  explain        what an answer's number means, and what to do
 
-'pairing COMMAND --help' describes a command.
+'pairing COMMAND --help' or 'pairing help COMMAND' describes a command, and
+'pairing --version' prints the version.
 
-Numbers are decimal, or hexadecimal after 0x. Exit status: 0 accepted or match,
-1 no match, 2 refused by the library, 64 bad usage or a file that cannot be used.
+Numbers are decimal, or hexadecimal after 0x.
+
+Exit status:
+   0   accepted, or match
+   1   no match
+   2   refused by the library; 'pairing explain' says more of a refusal
+  64   wrong usage: a command, option or argument that is not taken
+  65   a file whose content cannot be used
+  74   a file that cannot be read or written, standard output included
 ";
 
-/// What a command prints, and its exit status.
-pub struct Answer {
-    text: String,
-    status: u8,
-}
-
-impl Answer {
-    fn accepted(text: String) -> Answer {
-        Answer { text, status: 0 }
-    }
-}
-
-/// Why a command printed nothing.
-pub enum Failure {
-    /// The library refused the call.
-    Refused(Refusal),
-    /// A number or a file cannot be used.
-    Unusable(String),
-    /// The arguments are not those that the command takes.
-    Arguments(String),
-}
-
-impl From<Refusal> for Failure {
-    fn from(refusal: Refusal) -> Failure {
-        Failure::Refused(refusal)
-    }
-}
-
-pub fn unusable(text: impl Into<String>) -> Failure {
-    Failure::Unusable(text.into())
-}
-
-pub fn arguments(text: impl Into<String>) -> Failure {
-    Failure::Arguments(text.into())
-}
+const VERSION: &str = concat!("pairing ", env!("CARGO_PKG_VERSION"), "\n");
 
 struct Command {
     name: &'static str,
@@ -85,7 +66,7 @@ struct Command {
     run: fn(Args) -> Result<Answer, Failure>,
 }
 
-const COMMANDS: [Command; 6] = [
+static COMMANDS: [Command; 6] = [
     Command {
         name: "digest",
         help: digest::BYTES_HELP,
@@ -93,7 +74,7 @@ const COMMANDS: [Command; 6] = [
         run: digest::bytes,
     },
     Command {
-        name: "words",
+        name: "digest-words",
         help: digest::WORDS_HELP,
         options: digest::OPTIONS,
         run: digest::words,
@@ -125,58 +106,76 @@ const COMMANDS: [Command; 6] = [
 ];
 
 fn main() -> ExitCode {
-    let status = match answer(std::env::args_os().skip(1).collect()) {
-        Ok(answer) => print(&answer),
-        Err(Failure::Refused(refusal)) => {
-            eprintln!("pairing: refused with {} {refusal:?}", refusal.number());
-            eprintln!("{refusal}");
-            REFUSED
-        }
-        Err(Failure::Unusable(text) | Failure::Arguments(text)) => {
-            eprintln!("pairing: {text}");
-            BAD_USAGE
+    let status = match ended(std::env::args_os().skip(1).collect()) {
+        Ok(status) => status,
+        Err(failure) => {
+            output::tell(&failure.message());
+            failure.status()
         }
     };
     ExitCode::from(status)
 }
 
-fn answer(mut args: Vec<OsString>) -> Result<Answer, Failure> {
+/// The status of a run whose answer, if it has one, is printed.
+fn ended(mut args: Vec<OsString>) -> Result<u8, Failure> {
     if args.is_empty() {
-        return Err(arguments("no command is given; see 'pairing --help'"));
+        return Err(usage("no command is given").see("pairing"));
     }
     let name = args.remove(0);
-    if name == "--help" || name == "-h" || name == "help" {
-        return Ok(Answer::accepted(HELP.into()));
-    }
-    let Some(command) = COMMANDS.iter().find(|command| name == command.name) else {
-        let name = name.to_string_lossy();
-        let text = format!("{name} is no command; see 'pairing --help'");
-        return Err(arguments(text));
-    };
-    if Args::ask_for_help(&args) {
-        return Ok(Answer::accepted(command.help.into()));
-    }
-    Args::parse(args, command.options)
-        .and_then(command.run)
-        .map_err(|failure| match failure {
-            Failure::Arguments(text) => {
-                arguments(format!("{text}; see 'pairing {} --help'", command.name))
-            }
-            other => other,
-        })
+    let answer = match command(&name) {
+        Some(command) => command.answer(args),
+        None => about(&name, &args)
+            .map(Answer::accepted)
+            .map_err(|failure| failure.see("pairing")),
+    }?;
+    output::print(&answer.text)?;
+    Ok(answer.status)
 }
 
-/// Writes the answer's text and returns its status. Whoever closes the pipe early has read enough.
-fn print(answer: &Answer) -> u8 {
-    let mut stdout = std::io::stdout().lock();
-    let written = stdout
-        .write_all(answer.text.as_bytes())
-        .and_then(|()| stdout.flush());
-    match written {
-        Err(error) if error.kind() != ErrorKind::BrokenPipe => {
-            eprintln!("pairing: cannot write: {error}");
-            BAD_USAGE
+fn command(name: &OsStr) -> Option<&'static Command> {
+    COMMANDS.iter().find(|command| name == command.name)
+}
+
+impl Command {
+    fn answer(&self, args: Vec<OsString>) -> Result<Answer, Failure> {
+        if Args::ask_for_help(&args) {
+            return Ok(Answer::accepted(self.help));
         }
-        _ => answer.status,
+        Args::parse(args, self.options)
+            .and_then(self.run)
+            .map_err(|failure| failure.see(&format!("pairing {}", self.name)))
     }
+}
+
+/// The text that is asked for with a first argument that is no command.
+fn about(name: &OsStr, args: &[OsString]) -> Result<&'static str, Failure> {
+    match (name.to_str(), args) {
+        (Some("--help" | "-h" | "help"), _) => help(args),
+        (Some("--version" | "-V"), []) => Ok(VERSION),
+        (Some("--version" | "-V"), [extra, ..]) => Err(args::too_many(extra)),
+        _ => Err(no_command(name)),
+    }
+}
+
+fn help(args: &[OsString]) -> Result<&'static str, Failure> {
+    match args {
+        [] => Ok(HELP),
+        [name] => command(name)
+            .map(|command| command.help)
+            .ok_or_else(|| no_command(name)),
+        [_, extra, ..] => Err(args::too_many(extra)),
+    }
+}
+
+/// Names a command whose name has the given one in it, if there is one.
+fn no_command(name: &OsStr) -> Failure {
+    let plain = name.to_string_lossy().to_lowercase().replace('_', "-");
+    let near = COMMANDS
+        .iter()
+        .find(|command| plain.len() > 2 && command.name.contains(&plain));
+    let name = shown(name);
+    usage(match near {
+        Some(command) => format!("{name} is no command, but {} is", command.name),
+        None => format!("{name} is no command"),
+    })
 }

@@ -1,7 +1,9 @@
 //! `pairing match`.
 
 use crate::args::Args;
-use crate::{arguments, input, unusable, Answer, Failure};
+use crate::ending::{usage, Answer, Failure};
+use crate::number::digest_word;
+use crate::{input, refused};
 use std::ffi::OsStr;
 
 pub const HELP: &str = "\
@@ -21,47 +23,31 @@ Prints 'match' with exit status 0, or 'no match' with exit status 1.
 ";
 
 pub fn run(args: Args) -> Result<Answer, Failure> {
-    let n = args.needed_number("--words")?;
+    let words = args.needed_number("--words")?;
     let [first, second] = args.operands(["FIRST", "SECOND"])?;
     if first == "@-" && second == "@-" {
-        return Err(arguments("only one digest can be standard input"));
+        return Err(usage("only one digest can be standard input"));
     }
     let (first, second) = (digest(first)?, digest(second)?);
-    Ok(if pairing_agent::digests_match(n, &first, &second)? {
-        Answer::accepted("match\n".into())
+    let agree = pairing_agent::digests_match(words, &first, &second)
+        .map_err(|refusal| refused::digests_match(refusal, words, &first, &second))?;
+    Ok(if agree {
+        Answer::accepted("match\n")
     } else {
-        Answer {
-            text: "no match\n".into(),
-            status: 1,
-        }
+        Answer::no_match()
     })
 }
 
 /// The digest that an operand gives.
 fn digest(operand: &OsStr) -> Result<Vec<u32>, Failure> {
-    let text = operand.to_string_lossy();
-    let text = match text.strip_prefix('@') {
-        Some(file) => input::text(OsStr::new(file))?,
-        None => text.into_owned(),
-    };
-    text.split(|letter: char| letter == ',' || letter.is_whitespace())
-        .filter(|word| !word.is_empty())
-        .map(word)
-        .collect()
+    match input::at_file(operand) {
+        Some(file) => input::row(file, apart, digest_word),
+        None => input::words(&operand.to_string_lossy(), apart)
+            .map(|word| digest_word(word).map_err(usage))
+            .collect(),
+    }
 }
 
-fn word(text: &str) -> Result<u32, Failure> {
-    let printed = text.len() == 8 && text.chars().all(|digit| digit.is_ascii_hexdigit());
-    if !printed && !text.starts_with("0x") {
-        return Err(unusable(format!(
-            "'{}' is no digest word: write eight hexadecimal digits, or 0x and such digits",
-            input::shown(text)
-        )));
-    }
-    let number = if printed {
-        input::number(&format!("0x{text}"))
-    } else {
-        input::number(text)
-    };
-    number.map_err(unusable)
+fn apart(letter: char) -> bool {
+    letter == ',' || letter.is_whitespace()
 }

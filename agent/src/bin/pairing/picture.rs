@@ -1,6 +1,7 @@
 //! The histogram as a picture in SVG.
 
 use crate::count::Count;
+use crate::show::{counted, thousands};
 use std::collections::BTreeMap;
 use std::fmt::Write;
 
@@ -154,16 +155,7 @@ impl Axes {
 }
 
 fn pairs(number: u32) -> String {
-    let ending = if number == 1 { "" } else { "s" };
-    format!("{} pair{ending}", thousands(number))
-}
-
-/// The number with commas between its thousands.
-fn thousands(number: u32) -> String {
-    match number {
-        0..=999 => number.to_string(),
-        _ => format!("{},{:03}", thousands(number / 1_000), number % 1_000),
-    }
+    counted(number as usize, "pair")
 }
 
 /// An SVG file, element by element.

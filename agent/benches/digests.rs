@@ -7,6 +7,7 @@
 
 #![forbid(unsafe_code)]
 
+use pairing_agent::Settings;
 use std::hint::black_box;
 use std::time::{Duration, Instant};
 
@@ -91,6 +92,15 @@ fn print_ratio(w: u32, n: usize, names: &str, of: [&Times; 2], goal: Option<f64>
     }
 }
 
+/// That width, every bit kept, and n digest words.
+fn settings(w: u32, n: usize) -> Settings {
+    Settings {
+        width: w,
+        kept: w,
+        words: n as u32,
+    }
+}
+
 /// A digest of words: the width, the message, the key, and the output, a place for each word.
 type Side = fn(u32, &[u32], &[u32], &mut [u32]);
 
@@ -101,8 +111,8 @@ const MASKS: usize = 3;
 const SIDES: [Side; 4] = [library, plain, bare_shifts, bare_masks];
 
 fn library(w: u32, message: &[u32], key: &[u32], out: &mut [u32]) {
-    let n = out.len() as u32;
-    pairing_agent::digest_words(w, w, n, message, key, out).expect("the input is fit");
+    pairing_agent::digest_words(settings(w, out.len()), message, key, out)
+        .expect("the input is fit");
 }
 
 /// (a): no more than the definition, and a test of each word as one would write it.
@@ -267,8 +277,8 @@ impl BytesRow {
         let (mut of_bytes, mut of_words) = (vec![0; n], vec![1; n]);
         let times = race([
             Box::new(|| {
-                let (w, n) = (black_box(w), n as u32);
-                pairing_agent::digest_bytes(w, w, n, &bytes, &key, black_box(&mut of_bytes))
+                let settings = settings(black_box(w), n);
+                pairing_agent::digest_bytes(settings, &bytes, &key, black_box(&mut of_bytes))
                     .expect("the input is fit");
             }),
             Box::new(|| library(black_box(w), &words, &key, black_box(&mut of_words))),

@@ -1,0 +1,112 @@
+//! A scanner and a depot pair, through the proved library: once as it should go, once with a label
+//! altered on the way, once with a label of the wrong length.
+
+#![forbid(unsafe_code)]
+
+use pairing_agent::{digest_bytes, digests_match, stretch, Refusal, Settings};
+
+/// What both ends have agreed on.
+const SETTINGS: Settings = Settings {
+    width: 32,
+    kept: 32,
+    words: 2,
+};
+
+/// What the two ends share. Drawing it is not the toolkit's part; here it is the same in every run.
+const SEED: u32 = 0x5eed_2024;
+
+const LABEL: &str = "depot 7, gate B, scanner 0451, serial 8C-22-F1-90";
+
+fn main() {
+    let Settings { width, words, .. } = SETTINGS;
+    println!("A scanner and a depot hold a label and a fresh seed, here {SEED:#x}. Each stretches");
+    println!("the seed into a key and digests its label: {words} digest words of {width} bits.");
+    println!(
+        "Such a key is one of at most 2^32; the counts over all keys are not proved for those."
+    );
+    for (title, arrived) in arrivals() {
+        println!("\n{title}");
+        for line in pairing(&arrived) {
+            println!("   {line}");
+        }
+    }
+}
+
+/// What can happen to the label on the way.
+fn arrivals() -> [(&'static str, String); 3] {
+    [
+        ("1. The label arrives as it was sent", LABEL.into()),
+        (
+            "2. The label is altered on the way",
+            LABEL.replace("0451", "0457"),
+        ),
+        (
+            "3. A part of the label is lost on the way",
+            LABEL.replace(", serial 8C-22-F1-90", ""),
+        ),
+    ]
+}
+
+/// One pairing, told line by line: the scanner sends its label, the depot digests what arrives.
+fn pairing(arrived: &str) -> Vec<String> {
+    let mut lines = vec![
+        format!("scanner's label   {LABEL}"),
+        format!("depot's label     {arrived}"),
+    ];
+    match enrol(LABEL, arrived, &mut lines) {
+        Ok(true) => lines.push("agent             match: the network key would be issued".into()),
+        Ok(false) => lines.push("agent             no match: no network key".into()),
+        Err(refusal) => {
+            let number = refusal.number();
+            lines.push(format!(
+                "agent             refused with {number} {refusal:?}: no network key"
+            ));
+            lines.push(format!("advice            {refusal}"));
+        }
+    }
+    lines
+}
+
+/// Whether the agent would issue the network key.
+fn enrol(sent: &str, arrived: &str, lines: &mut Vec<String>) -> Result<bool, Refusal> {
+    // Each end stretches a key of its own, as long as the sent label needs it.
+    let key_words = SETTINGS.key_words(SETTINGS.words_of_bytes(sent.len()));
+    let scanner = digest(sent, key_words)?;
+    lines.push(format!("scanner's digest  {}", shown(&scanner)));
+    let depot = digest(arrived, key_words)?;
+    lines.push(format!("depot's digest    {}", shown(&depot)));
+    digests_match(SETTINGS.words, &scanner, &depot)
+}
+
+/// What one end does: stretch the key, digest the label.
+fn digest(label: &str, key_words: usize) -> Result<[u32; SETTINGS.words as usize], Refusal> {
+    let mut key = vec![0; key_words];
+    stretch(SETTINGS.width, SEED, &mut key)?;
+    let mut digest = [0; SETTINGS.words as usize];
+    digest_bytes(SETTINGS, label.as_bytes(), &key, &mut digest)?;
+    Ok(digest)
+}
+
+fn shown(digest: &[u32]) -> String {
+    let words: Vec<_> = digest.iter().map(|word| format!("{word:08x}")).collect();
+    words.join(" ")
+}
+
+#[test]
+fn the_agent_issues_one_key() {
+    let told = arrivals().map(|(_, arrived)| pairing(&arrived));
+    let agent = told
+        .iter()
+        .flatten()
+        .filter(|line| line.starts_with("agent"));
+    assert_eq!(
+        agent.collect::<Vec<_>>(),
+        [
+            "agent             match: the network key would be issued",
+            "agent             no match: no network key",
+            "agent             refused with 5 Key: no network key",
+        ]
+    );
+    let advice = format!("advice            {}", Refusal::Key);
+    assert_eq!(told[2].last(), Some(&advice));
+}

@@ -1,0 +1,120 @@
+//! The figures of a call that the library refused: what was given, and what is taken.
+//!
+//! The library has decided; this only describes the call.
+
+use crate::ending::Failure;
+use crate::input::MOST_BYTES;
+use crate::message::Message;
+use crate::show::{counted, thousands};
+use pairing_agent::{Refusal, Settings};
+use pairing_agent::{MOST_DIGEST_WORDS, MOST_KEY_WORDS, MOST_MESSAGE_WORDS};
+
+const WIDTHS: &str = "1 to 32";
+const WIDTHS_FOR_BYTES: &str = "8, 16 or 32";
+
+pub fn digest(refusal: Refusal, settings: Settings, message: &Message, key: &[u32]) -> Failure {
+    let Settings { width, kept, words } = settings;
+    let figures = match refusal {
+        Refusal::Width => Some(match message {
+            Message::Bytes(_) => width_figures(width, WIDTHS_FOR_BYTES),
+            Message::Words(_) => width_figures(width, WIDTHS),
+        }),
+        Refusal::Kept => {
+            let kept = thousands(kept);
+            Some(format!("{kept} bits kept; 1 to {width} at width {width}"))
+        }
+        Refusal::Count => Some(count_figures(words)),
+        Refusal::Long => Some(long_figures(message, settings)),
+        Refusal::Key => Some(key_figures(message, settings, key.len())),
+        Refusal::Word => word_figures(message, width, key),
+        _ => None,
+    };
+    Failure::Refused(refusal, figures)
+}
+
+pub fn stretch(refusal: Refusal, given: u32, words: u32) -> Failure {
+    match refusal {
+        Refusal::Long => {
+            let figures = at_most("", words as usize, "words", MOST_KEY_WORDS);
+            Failure::Refused(refusal, Some(figures))
+        }
+        _ => width(refusal, given),
+    }
+}
+
+/// A call in which only the width can be wrong.
+pub fn width(refusal: Refusal, given: u32) -> Failure {
+    let figures = (refusal == Refusal::Width).then(|| width_figures(given, WIDTHS));
+    Failure::Refused(refusal, figures)
+}
+
+pub fn digests_match(refusal: Refusal, words: u32, first: &[u32], second: &[u32]) -> Failure {
+    let figures = match refusal {
+        Refusal::Count => Some(count_figures(words)),
+        Refusal::Tray => {
+            let first = thousands(first.len());
+            let second = counted(second.len(), "word");
+            Some(format!(
+                "rows of {first} and {second}; each must have {words}"
+            ))
+        }
+        _ => None,
+    };
+    Failure::Refused(refusal, figures)
+}
+
+fn width_figures(width: u32, widths: &str) -> String {
+    format!("width {}; {widths}", thousands(width))
+}
+
+fn count_figures(words: u32) -> String {
+    format!(
+        "{} digest words; 1 to {MOST_DIGEST_WORDS}",
+        thousands(words)
+    )
+}
+
+fn long_figures(message: &Message, settings: Settings) -> String {
+    let bound = match message {
+        Message::Bytes(bytes) if bytes.len() == MOST_BYTES => "at least ",
+        _ => "",
+    };
+    let words = message.words(settings);
+    at_most(bound, words, "message words", MOST_MESSAGE_WORDS)
+}
+
+fn at_most(bound: &str, number: usize, things: &str, most: usize) -> String {
+    let (number, most) = (thousands(number), thousands(most));
+    format!("{bound}{number} {things}; at most {most}")
+}
+
+fn key_figures(message: &Message, settings: Settings, key_words: usize) -> String {
+    let message_words = message.words(settings);
+    format!(
+        "a key of {}; a message of {} and a digest of {} take {}",
+        counted(key_words, "word"),
+        thousands(message_words),
+        settings.words,
+        thousands(settings.key_words(message_words))
+    )
+}
+
+/// The first word that is too large, of the message or else of the key.
+fn word_figures(message: &Message, width: u32, key: &[u32]) -> Option<String> {
+    let most = (1u64 << width) - 1;
+    let message = match message {
+        Message::Bytes(_) => &[][..],
+        Message::Words(words) => words,
+    };
+    [("message", message), ("key", key)]
+        .into_iter()
+        .find_map(|(row, words)| {
+            let place = words.iter().position(|&word| u64::from(word) > most)?;
+            Some(format!(
+                "{row} word {} is {}; at most {} at width {width}",
+                thousands(place + 1),
+                thousands(words[place]),
+                thousands(most)
+            ))
+        })
+}

@@ -1,0 +1,90 @@
+//! Help, and the version.
+
+use crate::run::accepted;
+use pairing_agent::{MOST_DIGEST_WORDS, MOST_KEY_WORDS};
+
+const COMMANDS: [(&str, &[&str]); 6] = [
+    (
+        "digest",
+        &["--width", "--kept", "--words", "--seed", "--key"],
+    ),
+    (
+        "digest-words",
+        &["--width", "--kept", "--words", "--seed", "--key"],
+    ),
+    ("stretch", &["--width", "--seed"]),
+    ("match", &["--words"]),
+    ("count", &["--width", "--svg"]),
+    ("explain", &[]),
+];
+
+fn check_lines(text: &str) {
+    for line in text.lines() {
+        assert!(line.chars().count() <= 90, "{line}");
+    }
+}
+
+#[test]
+fn help() {
+    let top = accepted(&["--help"], b"");
+    assert_eq!(top, accepted(&["-h"], b""));
+    assert_eq!(top, accepted(&["help"], b""));
+    check_lines(&top);
+    for (command, options) in COMMANDS {
+        assert!(top.contains(&format!("\n  {command} ")), "{top}");
+        let text = accepted(&[command, "--help"], b"");
+        assert!(
+            text.contains(&format!("\nUsage: pairing {command} ")),
+            "{text}"
+        );
+        for option in options {
+            assert!(text.contains(&format!("\n  {option} ")), "{text}");
+        }
+        for asked in [
+            &[command, "-h"][..],
+            &[command, "extra", "--help", "--bits"],
+            &["help", command],
+            &["--help", command],
+        ] {
+            assert_eq!(text, accepted(asked, b""), "{asked:?}");
+        }
+        check_lines(&text);
+    }
+}
+
+#[test]
+fn help_tells_the_statuses_apart() {
+    let top = accepted(&["--help"], b"");
+    let (_, statuses) = top.split_once("\nExit status:\n").expect("a table");
+    let given: Vec<_> = statuses
+        .lines()
+        .map(|line| line.split_whitespace().next().unwrap())
+        .collect();
+    assert_eq!(given, ["0", "1", "2", "64", "65", "74"]);
+}
+
+#[test]
+fn help_has_the_limits_and_what_is_proved() {
+    let digest = accepted(&["digest", "--help"], b"");
+    let words = format!("digest words, 1 to {MOST_DIGEST_WORDS};");
+    assert!(digest.contains(&words), "{digest}");
+
+    let stretch = accepted(&["stretch", "--help"], b"");
+    let count = format!("how many words, up to {MOST_KEY_WORDS}\n");
+    assert!(stretch.contains(&count), "{stretch}");
+    let plain = stretch.split_whitespace().collect::<Vec<_>>().join(" ");
+    for part in [
+        "proved for keys of t + n words drawn uniformly",
+        "a stretched key is one of at most 2^32, and no count is proved for those.",
+    ] {
+        assert!(plain.contains(part), "{stretch}");
+    }
+}
+
+#[test]
+fn version() {
+    let due = format!("pairing {}\n", env!("CARGO_PKG_VERSION"));
+    for option in ["--version", "-V"] {
+        assert_eq!(accepted(&[option], b""), due);
+    }
+}

@@ -1,0 +1,16 @@
+//! The command line, run as built.
+
+#![forbid(unsafe_code)]
+
+mod count;
+mod digests;
+mod explain;
+mod files;
+mod help;
+mod matches;
+mod output;
+mod refusals;
+mod run;
+mod seeds;
+mod stretch;
+mod usage;

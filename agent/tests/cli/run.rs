@@ -1,0 +1,120 @@
+//! Runs of the program, and what they must leave.
+
+use pairing_agent::Refusal;
+use std::fs;
+use std::io::Write;
+use std::path::PathBuf;
+use std::process::{Command, Stdio};
+
+pub const PROGRAM: &str = env!("CARGO_BIN_EXE_pairing");
+
+/// What a run left.
+#[derive(Debug)]
+pub struct Run {
+    pub status: i32,
+    pub out: String,
+    pub err: String,
+}
+
+pub fn run(command: &mut Command, input: &[u8]) -> Run {
+    let mut child = command
+        .stdin(Stdio::piped())
+        .stdout(Stdio::piped())
+        .stderr(Stdio::piped())
+        .spawn()
+        .expect("pairing starts");
+    // A run that reads no input may have ended by now.
+    let _ = child.stdin.take().unwrap().write_all(input);
+    let output = child.wait_with_output().expect("pairing ends");
+    Run {
+        status: output.status.code().expect("pairing exits"),
+        out: String::from_utf8(output.stdout).unwrap(),
+        err: String::from_utf8(output.stderr).unwrap(),
+    }
+}
+
+pub fn pairing_with(args: &[&str], input: &[u8]) -> Run {
+    run(Command::new(PROGRAM).args(args), input)
+}
+
+pub fn pairing(args: &[&str]) -> Run {
+    pairing_with(args, b"")
+}
+
+/// A run whose streams the shell redirects.
+pub fn redirected(redirections: &str, args: &[&str]) -> Run {
+    let script = format!("exec \"$0\" \"$@\" {redirections}");
+    let mut shell = Command::new("sh");
+    run(shell.args(["-c", &script, PROGRAM]).args(args), b"")
+}
+
+/// The output of a run that must be accepted.
+pub fn accepted(args: &[&str], input: &[u8]) -> String {
+    let run = pairing_with(args, input);
+    assert_eq!((run.status, run.err.as_str()), (0, ""), "{args:?}");
+    run.out
+}
+
+/// Checks that the run is refused with this number, its figures and its advice, and prints nothing
+/// else.
+pub fn refused(refusal: Refusal, figures: &str, args: &[&str], input: &[u8]) {
+    let run = pairing_with(args, input);
+    let due = format!(
+        "pairing: refused with {} {refusal:?}\n{figures}\n{refusal}\n",
+        refusal.number()
+    );
+    assert_eq!((run.status, run.out.as_str()), (2, ""), "{args:?}");
+    assert_eq!(run.err, due, "{args:?}");
+}
+
+/// Checks that the run fails with this status and one line that has this text, and prints nothing
+/// else.
+fn failed(status: i32, text: &str, args: &[&str], input: &[u8]) {
+    let run = pairing_with(args, input);
+    let ended = (run.status, run.out.as_str());
+    assert_eq!(ended, (status, ""), "{args:?}: {run:?}");
+    assert!(run.err.starts_with("pairing: "), "{args:?}: {}", run.err);
+    assert!(run.err.contains(text), "{args:?}: {}", run.err);
+    assert_eq!(run.err.lines().count(), 1, "{args:?}: {}", run.err);
+}
+
+/// Checks that the arguments are wrong.
+pub fn bad_usage(text: &str, args: &[&str], input: &[u8]) {
+    failed(64, text, args, input);
+}
+
+/// Checks that a file's content cannot be used.
+pub fn bad_content(text: &str, args: &[&str], input: &[u8]) {
+    failed(65, text, args, input);
+}
+
+/// Checks that a file cannot be read or written.
+pub fn no_access(text: &str, args: &[&str], input: &[u8]) {
+    failed(74, text, args, input);
+}
+
+/// A file of one test's own.
+pub struct Scratch(pub PathBuf);
+
+impl Scratch {
+    pub fn new(name: &str, content: impl AsRef<[u8]>) -> Scratch {
+        let path = PathBuf::from(env!("CARGO_TARGET_TMPDIR")).join(format!("cli-{name}"));
+        fs::write(&path, content).expect("the scratch file is written");
+        Scratch(path)
+    }
+
+    pub fn path(&self) -> &str {
+        self.0.to_str().unwrap()
+    }
+
+    /// The argument that names the file after `@`.
+    pub fn at(&self) -> String {
+        format!("@{}", self.path())
+    }
+}
+
+impl Drop for Scratch {
+    fn drop(&mut self) {
+        let _ = fs::remove_file(&self.0);
+    }
+}

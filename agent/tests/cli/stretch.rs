@@ -1,0 +1,29 @@
+//! Stretched seeds.
+
+use crate::run::accepted;
+
+#[test]
+fn stretch_prints_the_published_outputs() {
+    assert_eq!(
+        accepted(&["stretch", "--seed", "5489", "3"], b""),
+        "0xd091bb5c\n0x22ae9ef6\n0xe7e1faee\n"
+    );
+    assert_eq!(
+        accepted(&["stretch", "--width", "8", "--seed", "5489", "3"], b""),
+        "0x0000005c\n0x000000f6\n0x000000ee\n"
+    );
+    assert_eq!(accepted(&["stretch", "--seed", "5489", "0"], b""), "");
+    let words = accepted(&["stretch", "--seed", "5489", "10000"], b"");
+    assert_eq!(words.lines().count(), 10_000);
+    assert_eq!(
+        words.lines().last(),
+        Some(format!("{:#010x}", 4_123_659_995u32).as_str())
+    );
+}
+
+#[test]
+fn the_longest_stretch() {
+    let most = pairing_agent::MOST_KEY_WORDS;
+    let words = accepted(&["stretch", "--seed", "1", &most.to_string()], b"");
+    assert_eq!((words.lines().count(), most), (65_544, 65_544));
+}

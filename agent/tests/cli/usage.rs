@@ -1,0 +1,126 @@
+//! Wrong usage.
+
+use crate::run::{bad_content, bad_usage, pairing, Scratch};
+
+const BAD_NUMBERS: [&str; 19] = [
+    "",
+    "x",
+    "-1",
+    "+1",
+    "1.0",
+    "1e3",
+    "1_000",
+    "1,2",
+    "0x",
+    "0xg",
+    "0X1",
+    "x1",
+    "00",
+    "010",
+    "4294967296",
+    "0x100000000",
+    "99999999999999999999",
+    "\u{663}",
+    "0b1",
+];
+
+#[test]
+fn bad_numbers() {
+    for number in BAD_NUMBERS {
+        let shown = format!("'{number}'");
+        for option in ["--width", "--kept", "--words", "--seed"] {
+            let option = format!("{option}={number}");
+            let mut args = vec!["digest-words", &option, "-"];
+            if !option.starts_with("--seed") {
+                args.extend(["--seed", "1"]);
+            }
+            bad_usage(&shown, &args, b"1");
+        }
+        bad_usage(&shown, &["stretch", "--seed", "1", "--", number], b"");
+        bad_usage(&shown, &["match", "--words", number, "0x1", "0x1"], b"");
+        bad_usage(&shown, &["count", "--width", number], b"");
+        bad_usage(&shown, &["explain", "--", number], b"");
+        if !number.is_empty() {
+            let row = format!("1 {number} 2");
+            let key = Scratch::new("key-bad-number", &row);
+            let args = ["digest-words", "--seed", "1", "-"];
+            bad_content(&shown, &args, row.as_bytes());
+            bad_content(&shown, &["digest", "--key", key.path(), "-"], b"1");
+        }
+    }
+}
+
+#[test]
+fn bad_commands() {
+    bad_usage("no command is given", &[], b"");
+    bad_usage("hash is no command;", &["hash"], b"");
+    bad_usage("--width is no command;", &["--width", "8"], b"");
+    bad_usage("?[31m is no command;", &["\x1b[31m"], b"");
+    // A near miss names the command.
+    for (name, command) in [
+        ("words", "digest-words"),
+        ("digest_words", "digest-words"),
+        ("Match", "match"),
+        ("dig", "digest"),
+    ] {
+        let why = format!("{name} is no command, but {command} is;");
+        bad_usage(&why, &[name, "--words", "2"], b"");
+        bad_usage(&why, &["help", name], b"");
+    }
+}
+
+#[test]
+fn bad_arguments() {
+    for (why, args) in [
+        ("--bits is no option", "digest --bits 8 --seed 1 -"),
+        ("-w is no option", "digest -w 8 --seed 1 -"),
+        ("--key is no option", "stretch --key k --seed 1 1"),
+        ("--seed needs a value", "digest - --seed"),
+        ("--seed is given twice", "digest - --seed 1 --seed=1"),
+        ("FILE is missing", "digest --seed 1"),
+        ("- is one argument too many", "digest --seed 1 - -"),
+        ("--seed or --key is missing", "digest -"),
+        (
+            "only one of --seed and --key",
+            "digest-words --seed 1 --key - -",
+        ),
+        (
+            "only one of --seed and --key",
+            "digest-words --seed @f --key f -",
+        ),
+        ("--seed is missing", "stretch 4"),
+        ("COUNT is missing", "stretch --seed 1"),
+        ("--words is missing", "match 0x1 0x1"),
+        ("SECOND is missing", "match --words 1 0x1"),
+        (
+            "0x3 is one argument too many",
+            "match --words 1 0x1 0x2 0x3",
+        ),
+        ("--width is missing", "count"),
+        ("3 is one argument too many", "count --width 2 3"),
+        ("NUMBER is missing", "explain"),
+        ("nosuch is no command", "help nosuch"),
+        ("extra is one argument too many", "help digest extra"),
+        ("extra is one argument too many", "--version extra"),
+    ] {
+        let args: Vec<_> = args.split(' ').collect();
+        bad_usage(why, &args, b"");
+    }
+}
+
+#[test]
+fn wrong_usage_says_where_the_help_is() {
+    for (command, args) in [
+        ("pairing", &[][..]),
+        ("pairing", &["hash"]),
+        ("pairing", &["help", "hash"]),
+        ("pairing digest", &["digest"]),
+        ("pairing digest-words", &["digest-words", "--width", "x"]),
+        ("pairing stretch", &["stretch", "--seed", "1"]),
+        ("pairing match", &["match", "--words=1", "172", "0x1"]),
+    ] {
+        let run = pairing(args);
+        let end = format!("; see '{command} --help'\n");
+        assert!(run.err.ends_with(&end), "{args:?}: {}", run.err);
+    }
+}

@@ -1,0 +1,283 @@
+//! Random calls of each entry, accepted and refused.
+//!
+//! `rare` makes long rows that many times rarer, for tests that make more calls.
+
+use super::calls::{Digest, Match, Stretch};
+use super::part::Part;
+use super::random::Random;
+use pairing_agent::Settings;
+use std::mem::size_of;
+
+/// Whether a call may have faults. A third of the calls have none; the others have each fault by
+/// itself with some chance, so that several come together.
+#[derive(Clone, Copy)]
+struct Faults(bool);
+
+impl Faults {
+    fn random(random: &mut Random) -> Faults {
+        Faults(!random.once_in(3))
+    }
+
+    /// Whether a call has a fault that every so many faulty ones have.
+    fn once_in(self, times: usize, random: &mut Random) -> bool {
+        self.0 && random.once_in(times)
+    }
+}
+
+/// What the two digests draw each in its own way.
+pub trait Drawn: Part {
+    fn fit_width(random: &mut Random) -> u32;
+    fn unfit_width(random: &mut Random) -> u32;
+}
+
+impl Drawn for u32 {
+    /// The widths in use, more often.
+    fn fit_width(random: &mut Random) -> u32 {
+        match random.below(8) {
+            0 => 8,
+            1 => 16,
+            2 | 3 => 32,
+            _ => 1 + random.below(32) as u32,
+        }
+    }
+
+    fn unfit_width(random: &mut Random) -> u32 {
+        outside(random, 33)
+    }
+}
+
+impl Drawn for u8 {
+    fn fit_width(random: &mut Random) -> u32 {
+        [8, 16, 32][random.below(3)]
+    }
+
+    /// Not 8, 16 or 32, but often fit for words.
+    fn unfit_width(random: &mut Random) -> u32 {
+        let w = match random.below(6) {
+            0 => 0,
+            1 => 33,
+            2 => [7, 9, 15, 17, 24, 31, 64][random.below(7)],
+            3 => random.word(),
+            _ => 1 + random.below(40) as u32,
+        };
+        match w {
+            8 | 16 | 32 => w + 1,
+            _ => w,
+        }
+    }
+}
+
+/// A call of the digest of words or of bytes.
+pub fn digest<P: Drawn>(random: &mut Random, rare: usize) -> Digest<P> {
+    let faults = Faults::random(random);
+    let fit_width = P::fit_width(random);
+    let width = if faults.once_in(6, random) {
+        P::unfit_width(random)
+    } else {
+        fit_width
+    };
+    let settings = Settings {
+        width,
+        kept: kept(random, faults, width),
+        words: count(random, faults),
+    };
+    // A count of words that can be lent, whatever the settings say.
+    let n = settings.words.min(20) as usize;
+    let parts = message_length::<P>(random, faults, rare, fit_width);
+    let words = P::words_made(fit_width, parts);
+    let key_words = key_length(random, faults, [words + n, parts + n]);
+    // Often the same for both rows, so that largest words meet.
+    let style = random.below(8);
+    let key_style = [style, random.below(8)][random.below(2)];
+    let message = words_below(random, P::bits(width), parts, style);
+    let mut call = Digest {
+        settings,
+        message: message.into_iter().map(P::of_bits).collect(),
+        key: words_below(random, width, key_words, key_style),
+        out: output(random, faults, n),
+    };
+    for row in P::rows_of_words(&mut call) {
+        if faults.once_in(3, random) {
+            spoil(random, width, row);
+        }
+    }
+    call
+}
+
+fn kept(random: &mut Random, faults: Faults, width: u32) -> u32 {
+    if faults.once_in(6, random) {
+        outside(random, width.saturating_add(1))
+    } else if width == 0 || random.once_in(3) {
+        width
+    } else {
+        1 + random.below(width.min(32) as usize) as u32
+    }
+}
+
+fn count(random: &mut Random, faults: Faults) -> u32 {
+    if faults.once_in(6, random) {
+        outside(random, 9)
+    } else {
+        1 + random.below(8) as u32
+    }
+}
+
+/// Mostly short; around the limit now and then.
+fn message_length<P: Part>(random: &mut Random, faults: Faults, rare: usize, width: u32) -> usize {
+    let word = P::parts_in_a_word(width);
+    if faults.once_in(120 * rare, random) {
+        P::most(width) + 1 + random.below(3 * word)
+    } else if random.once_in(4_000 * rare) {
+        P::most(width) - random.below(3 * word)
+    } else if random.once_in(10 * rare) {
+        random.below(1_200 / size_of::<P>())
+    } else {
+        random.below(24 * word)
+    }
+}
+
+/// The due length, or another: now and then one that takes parts for words.
+fn key_length(random: &mut Random, faults: Faults, [due, of_parts]: [usize; 2]) -> usize {
+    if !faults.once_in(5, random) {
+        due
+    } else if of_parts != due && random.once_in(8) {
+        of_parts
+    } else {
+        other_length(random, due)
+    }
+}
+
+/// As long as the digest or longer; too short in a fault.
+fn output(random: &mut Random, faults: Faults, due: usize) -> Vec<u32> {
+    let places = if faults.once_in(5, random) {
+        random.below(due.max(1))
+    } else if random.once_in(2) {
+        due
+    } else {
+        due + random.below(12)
+    };
+    random.row(places)
+}
+
+/// Most rows are short; some stand around a refill, a few around the longest.
+pub fn stretch(random: &mut Random, rare: usize) -> Stretch {
+    let width = if random.once_in(6) {
+        outside(random, 33)
+    } else {
+        1 + random.below(32) as u32
+    };
+    let words = if random.once_in(300 * rare) {
+        65_545 + random.below(3)
+    } else if random.once_in(1_500 * rare) {
+        65_544 - random.below(3)
+    } else if random.once_in(3 * rare) {
+        match random.below(10) {
+            0..=2 => 622 + random.below(5),
+            3..=5 => 1_246 + random.below(5),
+            _ => random.below(2_000),
+        }
+    } else {
+        random.below(40)
+    };
+    let seed = match random.below(8) {
+        0 => random.below(20) as u32,
+        1 => u32::MAX - random.below(20) as u32,
+        2 => 1 << random.below(32),
+        _ => random.word(),
+    };
+    Stretch {
+        width,
+        seed,
+        out: random.row(words),
+    }
+}
+
+/// Half of the rows that can be matched differ: in all words, in one, or in one bit.
+pub fn digests_match(random: &mut Random) -> Match {
+    let words = if random.once_in(8) {
+        outside(random, 9)
+    } else {
+        1 + random.below(8) as u32
+    };
+    let mut length = || match random.below(8) {
+        0 => other_length(random, words.min(20) as usize),
+        _ => words.min(20) as usize,
+    };
+    let lengths = [length(), length()];
+    let first = random.row(lengths[0]);
+    let mut second = first.clone();
+    second.resize_with(lengths[1], || random.word());
+    if !second.is_empty() {
+        let place = random.below(second.len());
+        match random.below(6) {
+            0 => second = random.row(lengths[1]),
+            1 => second[place] = random.word(),
+            2 => second[place] ^= 1 << random.below(32),
+            _ => {}
+        }
+    }
+    Match {
+        words,
+        first,
+        second,
+    }
+}
+
+/// 0, or a number from `first` on, its neighbours more often.
+fn outside(random: &mut Random, first: u32) -> u32 {
+    match random.below(6) {
+        0 | 1 => 0,
+        2 | 3 => first,
+        4 => first.saturating_add(random.below(40) as u32),
+        _ => first.max(random.word()),
+    }
+}
+
+/// A length near the due one that is not it, or any short one.
+fn other_length(random: &mut Random, due: usize) -> usize {
+    match random.below(6) {
+        0 | 1 => due.saturating_sub(1),
+        2 | 3 => due + 1,
+        4 => 0,
+        _ => random.below(40),
+    }
+}
+
+/// Words below 2^w: all the largest, all 0, or any with many at the ends of the range.
+fn words_below(random: &mut Random, w: u32, words: usize, style: usize) -> Vec<u32> {
+    let most = match w {
+        0 => 0,
+        1..=31 => (1 << w) - 1,
+        _ => u32::MAX,
+    };
+    (0..words)
+        .map(|_| match style {
+            0 => most,
+            1 => 0,
+            2 | 3 => match random.below(4) {
+                0 => most,
+                1 => 0,
+                2 => most - most / 2,
+                _ => random.word() & most,
+            },
+            _ => random.word() & most,
+        })
+        .collect()
+}
+
+/// Makes one word 2^w or more, where there is such a word; the row's ends more often.
+fn spoil(random: &mut Random, w: u32, row: &mut [u32]) {
+    if w >= 32 || row.is_empty() {
+        return;
+    }
+    let place = match random.below(4) {
+        0 => 0,
+        1 => row.len() - 1,
+        _ => random.below(row.len()),
+    };
+    row[place] = match random.below(3) {
+        0 => 1 << w,
+        1 => (1 << w) | random.word(),
+        _ => u32::MAX,
+    };
+}
