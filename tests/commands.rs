@@ -94,7 +94,7 @@ fn run(folder: &Path, commands: &[Shown]) -> Vec<(String, String)> {
         script += &shown.command;
         script += "\n__status=$?; printf '\\036%s\\n' \"$__status\"; (exit \"$__status\")\n";
     }
-    let temporary = folder.join("target/tmp");
+    let temporary = folder.join("target/scratch");
     fs::create_dir_all(&temporary).unwrap();
     let output = Command::new("bash")
         .args(["-c", &script])
@@ -176,7 +176,7 @@ fn commands_run_as_written() {
         assert!(faults.is_empty(), "{}", faults.join("\n"));
     }
     // one of them installs the command line, and nothing else
-    let installed = fs::read_dir(copy.join("target/tmp/bin")).unwrap();
+    let installed = fs::read_dir(copy.join("target/scratch/bin")).unwrap();
     let names: Vec<_> = installed.map(|entry| entry.unwrap().file_name()).collect();
     assert_eq!(names, ["pairing"]);
     fs::remove_dir_all(copy).unwrap();
