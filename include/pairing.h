@@ -27,9 +27,9 @@
 
 /* The version of this header and of the library that goes with it. */
 #define PAIRING_VERSION_MAJOR 0
-#define PAIRING_VERSION_MINOR 1
+#define PAIRING_VERSION_MINOR 2
 #define PAIRING_VERSION_PATCH 0
-#define PAIRING_VERSION "0.1.0"
+#define PAIRING_VERSION "0.2.0"
 
 /* Makes a compiler that can warn do so where an answer is not used: a refused call
  * has written nothing. */
@@ -61,10 +61,11 @@ enum {
     PAIRING_KEPT = 2,
     /* Count: n is not 1 to 8. */
     PAIRING_COUNT = 3,
-    /* Long: the message has more than PAIRING_MOST_WORDS words; a stretch, more
-     * than PAIRING_MOST_KEY_WORDS. */
+    /* Long: the message has more than PAIRING_MOST_WORDS words, for bytes counted with
+     * the closing byte; a stretch, more than PAIRING_MOST_KEY_WORDS. */
     PAIRING_LONG = 4,
-    /* Key: the key does not have n words more than the message. */
+    /* Key: the key does not have n words more than the message, for bytes counted with
+     * the closing byte. */
     PAIRING_KEY = 5,
     /* Tray: the output has fewer than n places; in a match, a row is not n words. */
     PAIRING_TRAY = 6,
@@ -76,7 +77,8 @@ enum {
     PAIRING_NO_MATCH = 101
 };
 
-/* The most message words of one digest. */
+/* The most message words of one digest. One byte closes a message of bytes, so at
+ * width w it has at most w / 8 * PAIRING_MOST_WORDS - 1. */
 #define PAIRING_MOST_WORDS 65536
 
 /* The most words of one stretch: a key for the longest message. */
@@ -100,9 +102,11 @@ uint32_t pairing_digest_words(uint32_t w, uint32_t b, uint32_t n,
                               uint32_t *out, size_t out_words);
 
 /*
- * Digests the words that the message's bytes make: the first byte lowest in its
- * word, the last word filled up with zero bytes. w is 8, 16 or 32; the key has n
- * words more than the message then has. Answers and output as above.
+ * Digests the words that the message's bytes make. The byte 0x80 closes them, also
+ * where there are none, so that zero bytes at the end count; then the first byte is
+ * lowest in its word, and zero bytes fill up the last word. w is 8, 16 or 32, and
+ * message_bytes / (w / 8) + 1 words are made, the quotient rounded down; the key has
+ * n words more. Answers and output as above.
  */
 PAIRING_USE_ANSWER
 uint32_t pairing_digest_bytes(uint32_t w, uint32_t b, uint32_t n,

@@ -91,11 +91,11 @@ static int refused(void)
     return all_refused(calls, WORDS(calls), words, NULL);
 }
 
-/* Bytes 01 02 03 are the words 0x0201 0x0003. */
+/* Bytes 01 02 03, closed by 80, are the words 0x0201 0x8003. */
 static int bytes_accepted(void)
 {
     const uint8_t bytes[] = {0x01, 0x02, 0x03};
-    const uint32_t words[] = {0x0201, 0x0003};
+    const uint32_t words[] = {0x0201, 0x8003};
     uint32_t out[] = {1, 2, 3}, due[] = {1, 2, 3};
     uint32_t answer = pairing_digest_bytes(16, 16, 2, bytes, WORDS(bytes), key, WORDS(key), out, WORDS(out));
     uint32_t answer_due = pairing_digest_words(16, 16, 2, words, WORDS(words), key, WORDS(key), due, WORDS(due));
@@ -103,42 +103,69 @@ static int bytes_accepted(void)
            out[2] == 3;
 }
 
-/* Under the key 1 0 a digest word is the message word. */
+/* Under the key 1 0 a digest word is the message word: the first bytes, and the one that closes them. */
 static int bytes_lowest_first(void)
 {
-    const uint8_t bytes[] = {0x81, 0x92, 0xa3, 0xb4};
+    const uint8_t bytes[] = {0x81, 0x92, 0xa3};
     const uint32_t one_zero[] = {1, 0};
-    const uint32_t due[] = {0x81, 0x9281, 0xa39281, 0xb4a39281};
+    const uint32_t due[] = {0x80, 0x8081, 0x809281, 0x80a39281};
     size_t i;
     for (i = 0; i < WORDS(due); i++) {
         uint32_t out = 9;
-        if (pairing_digest_bytes(32, 32, 1, bytes, i + 1, one_zero, 2, &out, 1) != PAIRING_ACCEPTED || out != due[i])
+        if (pairing_digest_bytes(32, 32, 1, bytes, i, one_zero, 2, &out, 1) != PAIRING_ACCEPTED || out != due[i])
             return 0;
     }
     return 1;
 }
 
+/* Four bytes fill a word of 32 bits, and the one that closes them is a word of its own: the digest under 0 1 0. */
+static int bytes_that_fill_their_last_word(void)
+{
+    const uint8_t bytes[] = {0x81, 0x92, 0xa3, 0xb4};
+    const uint32_t first[] = {1, 0, 0}, second[] = {0, 1, 0};
+    uint32_t out = 9;
+    return pairing_digest_bytes(32, 32, 1, bytes, WORDS(bytes), first, 2, &out, 1) == PAIRING_KEY && out == 9 &&
+           pairing_digest_bytes(32, 32, 1, bytes, WORDS(bytes), first, 3, &out, 1) == PAIRING_ACCEPTED &&
+           out == 0xb4a39281 &&
+           pairing_digest_bytes(32, 32, 1, bytes, WORDS(bytes), second, 3, &out, 1) == PAIRING_ACCEPTED && out == 0x80;
+}
+
+/* Bytes 05 and 05 00 are as many words, but others. */
+static int bytes_with_a_zero_at_the_end(void)
+{
+    const uint8_t bytes[] = {5, 0};
+    const uint32_t one_zero[] = {1, 0};
+    uint32_t five = 9, with_zero = 9;
+    return pairing_digest_bytes(32, 32, 1, bytes, 1, one_zero, 2, &five, 1) == PAIRING_ACCEPTED && five == 0x8005 &&
+           pairing_digest_bytes(32, 32, 1, bytes, 2, one_zero, 2, &with_zero, 1) == PAIRING_ACCEPTED &&
+           with_zero == 0x800005;
+}
+
+/* No bytes are the word 0x80: 0x80 * 3 + 0x80 * 2 div 256 = 385, which is 0x81 modulo 256. */
 static int bytes_accepted_without_a_message(void)
 {
     const uint8_t byte = 5;
-    const uint32_t seven = 7;
+    const uint32_t three_two[] = {3, 2};
     uint32_t out[] = {9, 9};
-    uint32_t answer = pairing_digest_bytes(8, 8, 1, &byte, 0, &seven, 1, out, WORDS(out));
-    return answer == PAIRING_ACCEPTED && out[0] == 0 && out[1] == 9;
+    return pairing_digest_bytes(8, 8, 1, &byte, 0, three_two, 1, out, WORDS(out)) == PAIRING_KEY && out[0] == 9 &&
+           pairing_digest_bytes(8, 8, 1, &byte, 0, three_two, 2, out, WORDS(out)) == PAIRING_ACCEPTED &&
+           out[0] == 0x81 && out[1] == 9;
 }
 
-/* Widths 8, 16 and 32: the most words pass, a byte more does not. */
+/* Widths 8, 16 and 32: the most words pass, a byte more does not. The key is 1 under the last word, whose highest byte
+ * closes the zeros. */
 static int bytes_at_the_most_words(void)
 {
-    static uint8_t bytes[4 * PAIRING_MOST_WORDS + 1];
-    static uint32_t zeros[PAIRING_MOST_WORDS + 1];
+    static uint8_t bytes[4 * PAIRING_MOST_WORDS];
+    static uint32_t last[PAIRING_MOST_WORDS + 1];
     size_t word;
+    last[PAIRING_MOST_WORDS - 1] = 1;
     for (word = 1; word <= 4; word *= 2) {
-        uint32_t w = 8 * (uint32_t)word, out = 9;
-        size_t most = word * PAIRING_MOST_WORDS;
-        if (pairing_digest_bytes(w, w, 1, bytes, most + 1, zeros, WORDS(zeros), &out, 1) != PAIRING_LONG || out != 9)
+        uint32_t w = 8 * (uint32_t)word, due = (uint32_t)0x80 << (w - 8), out = 9;
+        size_t most = word * PAIRING_MOST_WORDS - 1;
+        if (pairing_digest_bytes(w, w, 1, bytes, most + 1, last, WORDS(last), &out, 1) != PAIRING_LONG || out != 9)
             return 0;
-        if (pairing_digest_bytes(w, w, 1, bytes, most, zeros, WORDS(zeros), &out, 1) != PAIRING_ACCEPTED || out != 0)
+        if (pairing_digest_bytes(w, w, 1, bytes, most, last, WORDS(last), &out, 1) != PAIRING_ACCEPTED || out != due)
             return 0;
     }
     return 1;
@@ -151,7 +178,7 @@ static int bytes_refused(void)
         {PAIRING_WIDTH, 0, 0, 2, 3, 4, 3},  {PAIRING_WIDTH, 24, 8, 2, 3, 3, 3}, {PAIRING_WIDTH, 33, 8, 2, 3, 3, 3},
         {PAIRING_KEPT, 16, 0, 2, 3, 4, 3},  {PAIRING_KEPT, 16, 17, 2, 3, 4, 3}, {PAIRING_COUNT, 16, 8, 0, 3, 2, 3},
         {PAIRING_COUNT, 16, 8, 9, 3, 4, 3}, {PAIRING_KEY, 16, 8, 2, 3, 3, 3},   {PAIRING_KEY, 16, 8, 2, 3, 5, 3},
-        {PAIRING_TRAY, 16, 8, 2, 3, 4, 1},  {PAIRING_TRAY, 16, 8, 2, 3, 4, 0},  {PAIRING_WORD, 8, 8, 2, 3, 5, 3},
+        {PAIRING_TRAY, 16, 8, 2, 3, 4, 1},  {PAIRING_TRAY, 16, 8, 2, 3, 4, 0},  {PAIRING_WORD, 8, 8, 1, 3, 5, 3},
     };
     return all_refused(calls, WORDS(calls), NULL, bytes);
 }
@@ -221,13 +248,15 @@ static int null_rows(void)
 
 static int null_bytes(void)
 {
-    const uint32_t seven = 7;
+    const uint32_t one_zero[] = {1, 0};
     uint32_t w;
     for (w = 8; w <= 32; w *= 2) {
         uint32_t out[] = {9, 9};
-        if (pairing_digest_bytes(w, w, 1, NULL, 0, &seven, 1, out, WORDS(out)) != PAIRING_ACCEPTED || out[0] != 0 ||
-            out[1] != 9 || pairing_digest_bytes(w, w, 1, NULL, 0, NULL, 0, out, WORDS(out)) != PAIRING_KEY ||
-            pairing_digest_bytes(w, w, 1, NULL, 0, &seven, 1, NULL, 0) != PAIRING_TRAY)
+        if (pairing_digest_bytes(w, w, 1, NULL, 0, one_zero, 2, out, WORDS(out)) != PAIRING_ACCEPTED ||
+            out[0] != 0x80 || out[1] != 9 ||
+            pairing_digest_bytes(w, w, 1, NULL, 0, one_zero, 1, out, WORDS(out)) != PAIRING_KEY ||
+            pairing_digest_bytes(w, w, 1, NULL, 0, NULL, 0, out, WORDS(out)) != PAIRING_KEY ||
+            pairing_digest_bytes(w, w, 1, NULL, 0, one_zero, 2, NULL, 0) != PAIRING_TRAY)
             return 0;
     }
     return pairing_digest_bytes(24, 8, 1, NULL, 0, NULL, 0, NULL, 0) == PAIRING_WIDTH;
@@ -251,6 +280,8 @@ static const struct {
     {"refused", refused},
     {"bytes_accepted", bytes_accepted},
     {"bytes_lowest_first", bytes_lowest_first},
+    {"bytes_that_fill_their_last_word", bytes_that_fill_their_last_word},
+    {"bytes_with_a_zero_at_the_end", bytes_with_a_zero_at_the_end},
     {"bytes_accepted_without_a_message", bytes_accepted_without_a_message},
     {"bytes_at_the_most_words", bytes_at_the_most_words},
     {"bytes_refused", bytes_refused},

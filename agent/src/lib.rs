@@ -20,7 +20,9 @@
 //! Every answer and every row is proved to be the one that the definitions give. So are two counts
 //! over all keys of t + n words drawn uniformly: how many make two different messages of one length
 //! agree, at most 2^(w·t + n + n·(w−b)) of 2^(w·(t+n)); and how many give a message each digest.
-//! A key that [`stretch`] makes is one of at most 2^32, and no count is proved for those.
+//! Length is in words. Bytes are closed, so different bytes that make equally many words make
+//! different ones, which is proved too. A key that [`stretch`] makes is one of at most 2^32, and no
+//! count is proved for those.
 
 #![deny(unsafe_code)]
 #![deny(missing_docs)]
@@ -34,7 +36,7 @@ mod settings;
 pub use refusal::Refusal;
 pub use settings::Settings;
 
-/// The most words of a message.
+/// The most words of a message, for bytes counted with the closing byte.
 pub const MOST_MESSAGE_WORDS: usize = 65_536;
 
 /// The most words of a key, and so of a stretch: those for the longest message and digest.
@@ -63,8 +65,22 @@ pub fn digest_words(
 /// Writes the digest of the words that the bytes of `message` make into the first places of `out`,
 /// one for each digest word.
 ///
-/// The width is 8, 16 or 32. Bytes fill words with the first byte lowest, and zero bytes fill up
-/// the last, which makes [`Settings::words_of_bytes`] words. Key and `out` as for words.
+/// The width is 8, 16 or 32. The byte 0x80 closes the message, also one of no bytes, so that zero
+/// bytes at its end count. Closed, it fills words with the first byte lowest, and zero bytes fill
+/// up the last, which makes [`Settings::words_of_bytes`] words. Key and `out` as for words.
+///
+/// ```
+/// use pairing_agent::{digest_bytes, Settings};
+///
+/// // Under the key 1 0 a digest word is the message word itself.
+/// let settings = Settings { width: 32, kept: 32, words: 1 };
+/// let mut digest = [0];
+/// digest_bytes(settings, &[5], &[1, 0], &mut digest)?;
+/// assert_eq!(digest, [0x0000_8005]);
+/// digest_bytes(settings, &[5, 0], &[1, 0], &mut digest)?;
+/// assert_eq!(digest, [0x0080_0005]);
+/// # Ok::<(), pairing_agent::Refusal>(())
+/// ```
 ///
 /// # Errors
 ///

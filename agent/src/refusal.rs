@@ -71,12 +71,13 @@ impl Refusal {
             Refusal::Kept => "The kept bits b are 0, or more than the width w.",
             Refusal::Count => "The digest words n are 0, or more than 8.",
             Refusal::Long => {
-                "The message has more than 65,536 words, or a key of more than 65,544 is stretched."
+                "The message has more than 65,536 words, for bytes counted with the closing byte \
+                 0x80, or a key of more than 65,544 is stretched."
             }
             Refusal::Key => {
-                "The key does not have exactly n words more than the message. In a stream: the \
-                 opening key does not have n words, or a push has more words of one kind than of \
-                 the other."
+                "The key does not have exactly n words more than the message, for bytes counted \
+                 with the closing byte 0x80. In a stream: the opening key does not have n words, \
+                 or a push has more words of one kind than of the other."
             }
             Refusal::Tray => {
                 "The output has fewer places than the call writes. In a match: a row does not have \

@@ -28,18 +28,21 @@ impl Settings {
         message_words.saturating_add(self.words as usize)
     }
 
-    /// How many words `bytes` bytes make: 0 at a width other than 8, 16 and 32, which no bytes fill.
+    /// How many words `bytes` bytes make with the byte that closes them: one at least, but 0 at a
+    /// width other than 8, 16 and 32, which no bytes fill.
     ///
     /// ```
     /// let settings = pairing_agent::Settings { width: 32, kept: 32, words: 2 };
     /// assert_eq!(settings.words_of_bytes(9), 3);
+    /// // Eight bytes fill two words, so the closing byte has one of its own.
+    /// assert_eq!(settings.words_of_bytes(8), 3);
     /// ```
     #[must_use]
     pub fn words_of_bytes(&self, bytes: usize) -> usize {
         match self.width {
-            8 => bytes,
-            16 => bytes.div_ceil(2),
-            32 => bytes.div_ceil(4),
+            8 => bytes.saturating_add(1),
+            16 => bytes / 2 + 1,
+            32 => bytes / 4 + 1,
             _ => 0,
         }
     }

@@ -1,5 +1,5 @@
-//! How bytes become words: every length and place, and every alignment. The edges that both
-//! digests share are in edges.rs.
+//! How bytes become words: every length and place, how they are closed, and every alignment. The
+//! edges that both digests share are in edges.rs.
 
 #![forbid(unsafe_code)]
 
@@ -48,22 +48,85 @@ fn every_length_count_and_kept() {
     println!("every_length_count_and_kept: {calls} calls");
 }
 
-/// Under the key 1 0 a digest word is the message word itself.
+/// The word at that place of as many as the bytes make, as the library has it.
+///
+/// Under a key that is 1 there and 0 elsewhere a digest word is that word. The 1 also stands next
+/// to the word before, but the high half of that product is 0.
+fn word_seen(w: u32, bytes: &[u8], place: usize, words: usize) -> u32 {
+    let mut key = vec![0; words + 1];
+    key[place] = 1;
+    let mut out = [0xdead_beef];
+    let number = ffi::digest_bytes(settings(w, w, 1), bytes, &key, &mut out);
+    assert_eq!(number, 0, "w {w}, {} bytes", bytes.len());
+    out[0]
+}
+
+/// The words that the library makes of the bytes.
+fn words_seen(w: u32, bytes: &[u8]) -> Vec<u32> {
+    let words = words_made(w, bytes.len());
+    (0..words)
+        .map(|place| word_seen(w, bytes, place, words))
+        .collect()
+}
+
 #[test]
 fn words_of_the_bytes() {
-    let word = |w, bytes: &[u8]| {
-        let mut out = [0xdead_beef];
-        let number = ffi::digest_bytes(settings(w, w, 1), bytes, &[1, 0], &mut out);
-        assert_eq!(number, 0);
-        out[0]
-    };
-    assert_eq!(word(8, &[0x81]), 0x81);
-    assert_eq!(word(16, &[0x81, 0x92]), 0x9281);
-    assert_eq!(word(16, &[0x81]), 0x0081);
-    assert_eq!(word(32, &[0x81, 0x92, 0xa3, 0xb4]), 0xb4a3_9281);
-    assert_eq!(word(32, &[0x81, 0x92, 0xa3]), 0x00a3_9281);
-    assert_eq!(word(32, &[0x81, 0x92]), 0x0000_9281);
-    assert_eq!(word(32, &[0x81]), 0x0000_0081);
+    let bytes = [0x81, 0x92, 0xa3, 0xb4];
+    assert_eq!(words_seen(8, &bytes[..1]), [0x81, 0x80]);
+    assert_eq!(words_seen(8, &bytes[..2]), [0x81, 0x92, 0x80]);
+    assert_eq!(words_seen(16, &bytes[..1]), [0x8081]);
+    assert_eq!(words_seen(16, &bytes[..2]), [0x9281, 0x0080]);
+    assert_eq!(words_seen(16, &bytes[..3]), [0x9281, 0x80a3]);
+    assert_eq!(words_seen(16, &bytes), [0x9281, 0xb4a3, 0x0080]);
+    assert_eq!(words_seen(32, &bytes[..1]), [0x0000_8081]);
+    assert_eq!(words_seen(32, &bytes[..2]), [0x0080_9281]);
+    assert_eq!(words_seen(32, &bytes[..3]), [0x80a3_9281]);
+    assert_eq!(words_seen(32, &bytes), [0xb4a3_9281, 0x0000_0080]);
+    for w in WIDTHS_OF_BYTES {
+        assert_eq!(words_seen(w, &[]), [0x80], "w {w}");
+    }
+}
+
+/// No bytes are the one word 0x80, so their key has 1 + n words.
+#[test]
+fn no_bytes() {
+    // 0x80·3 + (0x80·2 div 256) = 385, which is 0x81 modulo 256.
+    let mut out = [0];
+    let result = digest_bytes(settings(8, 8, 1), &[], &[3, 2], &mut out);
+    assert_eq!((result, out), (Ok(()), [0x81]));
+    for w in WIDTHS_OF_BYTES {
+        for n in 1..=8 {
+            let call = fit(w, n, 0);
+            assert_eq!(call.key.len(), 1 + n as usize);
+            assert_eq!(answer(&call), 0, "w {w}, n {n}");
+            let mut of_word = vec![0; n as usize];
+            let number = ffi::digest_words(call.settings, &[0x80], &call.key, &mut of_word);
+            assert_eq!((number, digest(&call, &[])), (0, of_word), "w {w}, n {n}");
+            for words in [0, n as usize, 2 + n as usize] {
+                let mut call = call.clone();
+                call.key.resize(words, 1);
+                assert_eq!(answer(&call), 5, "w {w}, n {n}, key of {words}");
+            }
+        }
+    }
+}
+
+/// Where bytes fill their last word, the closing one has a word of its own.
+#[test]
+fn a_full_last_word() {
+    for w in WIDTHS_OF_BYTES {
+        for full in 1..=12 {
+            let call = fit(w, 2, full * u8::parts_in_a_word(w));
+            let words = words_seen(w, &call.message);
+            assert_eq!(words.len(), full + 1, "w {w}");
+            assert_eq!(words[full], 0x80, "w {w}, {full} full words");
+            assert_eq!(answer(&call), 0);
+            // As long as it would be without that word.
+            let mut short = call;
+            short.key.truncate(full + 2);
+            assert_eq!(answer(&short), 5, "w {w}, {full} full words");
+        }
+    }
 }
 
 #[test]
@@ -80,17 +143,75 @@ fn a_byte_at_every_place() {
     }
 }
 
-/// The zero bytes may as well be lent, up to the word's end.
+/// A label with zero bytes added is another message: under the same key its digest is another, or
+/// it has more words and needs a longer key.
 #[test]
-fn filled_up_with_zero_bytes() {
+fn zero_bytes_at_the_end_count() {
     for w in WIDTHS_OF_BYTES {
         for bytes in 0..=40 {
-            let call = fit(w, 8, bytes);
-            let due = digest(&call, &call.message);
-            let mut message = call.message.clone();
-            for length in bytes + 1..=bytes.next_multiple_of(u8::parts_in_a_word(w)) {
-                message.resize(length, 0);
-                assert_eq!(digest(&call, &message), due, "w {w}, {bytes} of {length}");
+            let mut call = fit(w, 8, bytes);
+            let of_label = digest(&call, &call.message);
+            for length in bytes + 1..=bytes + 9 {
+                call.message.push(0);
+                let same_words = words_made(w, length) == words_made(w, bytes);
+                let due = if same_words { 0 } else { 5 };
+                assert_eq!(answer(&call), due, "w {w}, {bytes} of {length}");
+                if same_words {
+                    let of_longer = digest(&call, &call.message);
+                    assert_ne!(of_longer, of_label, "w {w}, {bytes} of {length}");
+                }
+            }
+        }
+    }
+}
+
+/// Endings that look like a closing byte, like what fills up the last word, or like both: a message
+/// with one has other words than without.
+#[test]
+fn endings_that_look_closed() {
+    let endings: [&[u8]; 10] = [
+        &[0x80],
+        &[0],
+        &[0, 0],
+        &[0, 0, 0],
+        &[0, 0, 0, 0],
+        &[0x80, 0],
+        &[0x80, 0, 0],
+        &[0x80, 0, 0, 0],
+        &[0x80, 0x80],
+        &[0, 0x80],
+    ];
+    for w in WIDTHS_OF_BYTES {
+        for bytes in 0..=20 {
+            let without = fit(w, 3, bytes).message;
+            for ending in endings {
+                let mut call = fit(w, 3, bytes + ending.len());
+                call.message = [&without[..], ending].concat();
+                assert_eq!(answer(&call), 0, "w {w}, {bytes} and {ending:x?}");
+                let words = words_seen(w, &call.message);
+                let due = words_of_bytes(w, &call.message);
+                assert_eq!(words, due, "w {w}, {bytes} and {ending:x?}");
+                assert_ne!(
+                    words,
+                    words_seen(w, &without),
+                    "w {w}, {bytes}, {ending:x?}"
+                );
+            }
+        }
+    }
+}
+
+/// Messages of as many words as the library decodes at a time, of one fewer and one more, at every
+/// fill of the last word.
+#[test]
+fn around_the_blocks() {
+    for w in WIDTHS_OF_BYTES {
+        let in_a_word = u8::parts_in_a_word(w);
+        for words in [64, 256, 512, 1024].map(|block| block - 1..=block + 2) {
+            for bytes in words.start() * in_a_word..words.end() * in_a_word {
+                for n in [1, 8] {
+                    assert_eq!(answer(&fit(w, n, bytes)), 0, "w {w}, n {n}, {bytes} bytes");
+                }
             }
         }
     }
@@ -137,13 +258,35 @@ fn at_every_alignment() {
     }
 }
 
-/// Long counts words: as many bytes as would be too many at width 8 pass at the others.
+/// 65,536 words pass, the closing byte's among them, and a byte more makes one more.
+#[test]
+fn the_longest_messages() {
+    // So many bytes and the closing one fill 65,536 words: it is the last word's highest byte.
+    for (w, bytes, last) in [
+        (8, 65_535, 0x80),
+        (16, 131_071, 0x8000),
+        (32, 262_143, 0x8000_0000),
+    ] {
+        let mut call = fit(w, 1, bytes);
+        assert_eq!(call.key.len(), 65_537, "w {w}");
+        assert_eq!(answer(&call), 0, "w {w}, {bytes} bytes");
+        let zeros = vec![0; bytes];
+        assert_eq!(word_seen(w, &zeros, 65_535, 65_536), last, "w {w}");
+        // Under the key for the most words, and under one of its own length.
+        call.message.push(0);
+        assert_eq!(answer(&call), 4, "w {w}, {bytes} bytes and one");
+        call.key.push(0);
+        assert_eq!(answer(&call), 4, "w {w}, {bytes} bytes and one");
+    }
+}
+
+/// Long counts words and not bytes: as many as are too many at one width pass at the next.
 #[test]
 fn long_counts_words() {
-    assert_eq!(answer(&fit(8, 1, 65_537)), 4);
-    assert_eq!(answer(&fit(16, 1, 65_537)), 0);
-    assert_eq!(answer(&fit(16, 1, 131_073)), 4);
-    assert_eq!(answer(&fit(32, 1, 131_073)), 0);
+    assert_eq!(answer(&fit(8, 1, 65_536)), 4);
+    assert_eq!(answer(&fit(16, 1, 65_536)), 0);
+    assert_eq!(answer(&fit(16, 1, 131_072)), 4);
+    assert_eq!(answer(&fit(32, 1, 131_072)), 0);
 }
 
 /// A width that only words have is refused before all else.

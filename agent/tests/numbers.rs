@@ -139,4 +139,12 @@ fn every_limit_is_the_same() {
 fn the_header_has_the_crates_version() {
     let version = env!("CARGO_PKG_VERSION");
     assert!(HEADER.contains(&format!("#define PAIRING_VERSION \"{version}\"\n")));
+    for (name, number) in [
+        ("MAJOR", env!("CARGO_PKG_VERSION_MAJOR")),
+        ("MINOR", env!("CARGO_PKG_VERSION_MINOR")),
+        ("PATCH", env!("CARGO_PKG_VERSION_PATCH")),
+    ] {
+        let line = format!("#define PAIRING_VERSION_{name} {number}\n");
+        assert!(HEADER.contains(&line), "{name}");
+    }
 }

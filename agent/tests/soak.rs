@@ -97,7 +97,8 @@ impl Tally {
     }
 }
 
-/// What the byte digest must leave: the word digest of words that are sums of bytes.
+/// What the byte digest must leave: the word digest of words that are sums of bytes. The last one
+/// has the bytes that fill no word, and 0x80 at the place above them.
 fn bytes_due(call: &Digest<u8>) -> Outcome {
     let in_a_word = match call.settings.width {
         8 => 1,
@@ -113,7 +114,10 @@ fn bytes_due(call: &Digest<u8>) -> Outcome {
             .map(|(byte, place)| u32::from(*byte) * place)
             .sum()
     };
-    let words: Vec<u32> = call.message.chunks(in_a_word).map(word).collect();
+    let full = call.message.chunks_exact(in_a_word);
+    let left = full.remainder();
+    let last = word(left) + 0x80 * 256u32.pow(left.len() as u32);
+    let words: Vec<u32> = full.map(word).chain([last]).collect();
     paper::digest_words(call.settings, &words, &call.key, &call.out)
 }
 

@@ -55,7 +55,7 @@ fn case_f() {
     assert_eq!(worked(8, 8, 1, &[], &[7]), [0]);
 }
 
-/// Bytes 01 02 03 at width 16 are the words 0x0201 0x0003.
+/// Bytes 01 02 03, closed by 80, are at width 16 the words 0x0201 0x8003.
 #[test]
 fn case_h() {
     let mut random = Random::new(12);
@@ -63,7 +63,7 @@ fn case_h() {
         for b in 1..=16 {
             let key: Vec<u32> = random.row(2 + n).iter().map(|k| k >> 16).collect();
             let settings = settings(16, b, n as u32);
-            let digest = worked(16, b, n as u32, &[0x0201, 0x0003], &key);
+            let digest = worked(16, b, n as u32, &[0x0201, 0x8003], &key);
             let mut out = random.row(n);
             let result = digest_bytes(settings, &[0x01, 0x02, 0x03], &key, &mut out);
             assert_eq!((result, out), (Ok(()), digest));

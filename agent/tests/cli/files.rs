@@ -49,9 +49,10 @@ fn files_of_any_name() {
         assert_eq!((ended.status, ended.err.as_str()), (0, ""), "{args:?}");
         assert!(ended.out.ends_with(out), "{args:?}");
     }
+    // A key of one word goes with no words.
     let ended = run(
         Command::new(PROGRAM)
-            .args(["digest", "-"])
+            .args(["digest-words", "-"])
             .arg(named(b"--key=")),
         b"",
     );

@@ -143,8 +143,10 @@ fn a_closed_input_is_not_an_empty_one() {
         let message = format!("pairing: cannot read standard input: {why}\n");
         assert_eq!((run.status, run.out + &run.err), (74, message));
     }
-    let run = redirected("</dev/null", &["digest", "--seed", "1", "-"]);
-    assert_eq!((run.status, run.out.as_str()), (0, "00000000\n"));
+    // No bytes are the word 0x80, which is the digest under the key 1 0.
+    let key = Scratch::new("key-empty-input", "1 0");
+    let run = redirected("</dev/null", &["digest", "--key", key.path(), "-"]);
+    assert_eq!((run.status, run.out.as_str()), (0, "00000080\n"));
     // What reads no input needs none.
     let run = redirected("<&-", &["stretch", "--seed", "5489", "1"]);
     assert_eq!((run.status, run.out.as_str()), (0, "0xd091bb5c\n"));

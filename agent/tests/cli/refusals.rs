@@ -47,7 +47,8 @@ fn refusals_of_settings() {
 #[test]
 fn refusals_of_a_length() {
     let figures = "65,537 message words; at most 65,536";
-    for (w, most) in [("8", 65_536), ("16", 131_072), ("32", 262_144)] {
+    // The closing byte is the last of 65,536 words.
+    for (w, most) in [("8", 65_535), ("16", 131_071), ("32", 262_143)] {
         for n in ["1", "8"] {
             let args = ["digest", "--width", w, "--words", n, "--seed", "1", "-"];
             let digest = accepted(&args, &vec![7; most]);
@@ -68,18 +69,18 @@ fn refusals_of_a_length() {
 
 #[test]
 fn a_message_longer_than_is_read() {
-    // 2^24 bytes are read.
+    // 2^24 bytes are read. They fill words, so the closing byte makes one more.
     for (w, words) in [
-        ("8", "16,777,216"),
-        ("16", "8,388,608"),
-        ("32", "4,194,304"),
+        ("8", "16,777,217"),
+        ("16", "8,388,609"),
+        ("32", "4,194,305"),
     ] {
         let figures = format!("at least {words} message words; at most 65,536");
         let args = ["digest", "--width", w, "--seed", "1", "-"];
         refused(Refusal::Long, &figures, &args, &vec![7; 20_000_000]);
     }
     // One byte less is a length that is known.
-    let figures = "16,777,215 message words; at most 65,536";
+    let figures = "16,777,216 message words; at most 65,536";
     let args = ["digest", "--width", "8", "--seed", "1", "-"];
     refused(Refusal::Long, figures, &args, &vec![7; (1 << 24) - 1]);
 }
@@ -95,21 +96,22 @@ fn refusals_of_a_key() {
         let figures = format!("a key of {words}; a message of 2 and a digest of 2 take 4");
         let key = Scratch::new(&format!("key-of-{}", key.len()), key);
         let settings = ["--width", "8", "--words", "2", "--key", key.path(), "-"];
+        // A byte and the one that closes it.
         let args = [&["digest"], &settings[..]].concat();
-        refused(Refusal::Key, &figures, &args, &[3, 7]);
+        refused(Refusal::Key, &figures, &args, &[3]);
         let args = [&["digest-words"], &settings[..]].concat();
         refused(Refusal::Key, &figures, &args, b"3 256");
     }
-    // Nine bytes are three words of 32 bits.
+    // Eight bytes are two words of 32 bits, and the closing byte makes a third.
     let key = Scratch::new("key-of-bytes", "1 2 3");
     let figures = "a key of 3 words; a message of 3 and a digest of 1 take 4";
     let args = ["digest", "--key", key.path(), "-"];
-    refused(Refusal::Key, figures, &args, b"123456789");
+    refused(Refusal::Key, figures, &args, b"12345678");
     // The longest key that is refused for its length alone.
     let key = Scratch::new("key-long", "1 ".repeat(65_545));
     let figures = "a key of 65,545 words; a message of 65,536 and a digest of 8 take 65,544";
     let args = ["digest", "--words", "8", "--key", key.path(), "-"];
-    refused(Refusal::Key, figures, &args, &vec![7; 262_144]);
+    refused(Refusal::Key, figures, &args, &vec![7; 262_143]);
 }
 
 #[test]
@@ -118,7 +120,7 @@ fn refusals_of_a_word() {
     let settings = ["--width", "8", "--words", "2", "--key", key.path(), "-"];
     let figures = "key word 4 is 256; at most 255 at width 8";
     let args = [&["digest"], &settings[..]].concat();
-    refused(Refusal::Word, figures, &args, &[3, 7]);
+    refused(Refusal::Word, figures, &args, &[3]);
     let args = [&["digest-words"], &settings[..]].concat();
     refused(Refusal::Word, figures, &args, b"3 7");
     // The message's comes first.

@@ -8,7 +8,8 @@ fn a_seed_stands_for_its_stretched_key() {
         for n in 1..=8usize {
             for length in [0, 1, 3, 4, 5, 17] {
                 let message: Vec<u8> = (0..length).map(|i| (i * 37 + w) as u8).collect();
-                let count = length.div_ceil(bytes_in_word) + n;
+                // A byte more than the message's closes it.
+                let count = (length + 1).div_ceil(bytes_in_word) + n;
                 let (w, n, count) = (w.to_string(), n.to_string(), count.to_string());
                 let key = accepted(&["stretch", "--width", &w, "--seed", "77", &count], b"");
                 let key = Scratch::new(&format!("key-seed-{w}-{n}-{length}"), key);

@@ -17,9 +17,10 @@ impl Place for u32 {
 }
 
 impl Place for u8 {
-    /// Not zero, so a last word that is filled up from past the row is wrong as well.
+    /// Neither 0 nor 0x80, so a last word that is closed or filled up from past the row is wrong as
+    /// well.
     fn guard(random: &mut Random) -> u8 {
-        random.byte() | 0x80
+        random.byte() | 0x81
     }
 }
 

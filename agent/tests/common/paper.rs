@@ -71,19 +71,26 @@ pub fn digest_bytes(settings: Settings, message: &[u8], key: &[u32], out: &[u32]
     digest_words(settings, &words, key, out)
 }
 
-/// The first byte lowest; bytes that the last word lacks count as zero.
+/// The bytes, the byte that closes them, and zero bytes until the last word is full; then words of
+/// them with the first byte lowest.
 pub fn words_of_bytes(w: u32, bytes: &[u8]) -> Vec<u32> {
     let in_a_word = w as usize / 8;
-    let mut words = vec![0; words_made(w, bytes.len())];
-    for (i, byte) in bytes.iter().enumerate() {
+    let mut closed = [bytes, &[0x80]].concat();
+    while closed.len() % in_a_word != 0 {
+        closed.push(0);
+    }
+    let mut words = vec![0; closed.len() / in_a_word];
+    for (i, byte) in closed.iter().enumerate() {
         words[i / in_a_word] += u32::from(*byte) * 256u32.pow((i % in_a_word) as u32);
     }
     words
 }
 
-/// How many words that many bytes make; the most of a `usize` where it cannot hold them.
+/// How many words that many bytes and the closing one make; the most of a `usize` where it cannot
+/// hold them.
 pub fn words_made(w: u32, bytes: usize) -> usize {
-    let words = (bytes as u128).div_ceil(u128::from(w) / 8);
+    let closed = bytes as u128 + 1;
+    let words = closed.div_ceil(u128::from(w) / 8);
     usize::try_from(words).unwrap_or(usize::MAX)
 }
 

@@ -1,17 +1,19 @@
--- Full words in blocks: the bytes of a block are there, its words are the message's, and its sums go on from those before.
-use mathlib.Core.Path.{_≡_, refl, sym, ap, subst, _∙_}
-use mathlib.Core.List.{List, [], _++_}
-use Prim.Native.Nat.{ℕ, suc, _+_, _-_, _*_, _≤_, _<_}
+-- Words in blocks: all but the last have their bytes in the message, a block's words are the message's, and its sums go on from those before.
+use mathlib.Core.Path.{_≡_, refl, sym, ap, ap₂, subst, _∙_}
+use mathlib.Core.List.{List, [], _∷_, _++_}
+use Prim.Native.Nat.{ℕ, suc, _+_, _-_, _*_, _/_, min, _≤_, _<_}
 use native.Mathlib.Nat.{suc-mul, mul-le-mul-right, add-mul}
+use native.Mathlib.Decide.{decLe}
 use native.Mathlib.Omega.{arith}
-use lib.ListN.{length, take, drop, replicate, take-append-drop, length-drop}
-use lib.Seq.{length-take-le}
+use lib.ListN.{length, getD, set, take, drop, replicate, take-append-drop, length-drop, drop-of-length-le}
+use lib.Seq.{length-take-le, drop-cons, set-at}
 use Rattle.rows.proofs.Parts.{part-to-end}
 use Rattle.sums.specs.Sums.{leafSums}
 use Rattle.counts.proofs.Fits.{fits-parts, fits-zeros}
 use Rattle.sums.proofs.Each.{sums-none, leaf-sums, leaf-append}
-use Rattle.byte_sums.specs.Bytes.{wordsFrom, Size, sumsFrom}
-use Rattle.byte_sums.proofs.Words.{words-length, words-append}
+use Rattle.byte_sums.specs.Bytes.{littleEndian, wordsFrom, closed, Size, sumsFrom}
+use Rattle.byte_sums.proofs.Closing.{closed-length, closed-drop}
+use Rattle.byte_sums.proofs.Words.{full-there, little-filled, words-front, words-length, words-append}
 
 -- the size as the number that it is
 pub of-size : (c k t n : ℕ) → c ≡ k → Size c × (t * c ≤ n) → Size k × (t * k ≤ n)
@@ -20,23 +22,63 @@ of-size c k t n e = subst (λ (m : ℕ). Size m × (t * m ≤ n)) e
 pub words-size : (c k t : ℕ) (xs : List ℕ) → c ≡ k → wordsFrom k t xs ≡ wordsFrom c t xs
 words-size c k t xs e = ap (λ (m : ℕ). wordsFrom m t xs) (sym e)
 
--- the bytes of fewer words are there too
-pub words-there : (c i t n : ℕ) → i ≤ t → t * c ≤ n → i * c ≤ n
-words-there c i t n le there = omega (arith, mul-le-mul-right c le)
-
+-- t words that are all there: each of them is
 pub word-there : (c i t n : ℕ) → i < t → t * c ≤ n → i * c + c ≤ n
-word-there c i t n lt there = omega (arith, suc-mul i c, words-there c (suc i) t n lt there)
+word-there c i t n lt there = omega (arith, suc-mul i c, mul-le-mul-right c lt)
 
--- a block of the full words, lent as the part from its place on: its bytes are there, and its words are those of the message
-module _ (c full at size : ℕ) (xs row : List ℕ) (there : full * c ≤ length xs) (inside : at + size ≤ full) where
-  block-there : at * c + size * c ≤ length xs
-  block-there = omega (arith, add-mul at size c, words-there c (at + size) full (length xs) inside there)
+-- words whose bytes are all the message's own
+pub whole-words : (c t : ℕ) (xs : List ℕ) → t * c ≤ length xs → wordsFrom c t xs ≡ wordsFrom c t (closed xs)
+unfolding closed
+whole-words c t xs there = sym (words-front c t xs (0x80 ∷ []) there)
 
-  pub block-fits : size ≤ length row → length (take size row) * c ≤ length (take (length xs - at * c) (drop (at * c) xs))
-  block-fits room = rw (length-take-le size row room, part-to-end (length xs) (at * c) xs refl, length-drop (at * c) xs) (omega (arith, block-there))
+-- a row that may have one place more than the message has full words: as many of them as it has places for
+module _ (c size full n : ℕ) (pos : 1 ≤ c) (is : full ≡ min size (n / c)) where
+  pub full-fit : full * c ≤ n
+  full-fit = let few : full ≤ n / c = omega arith in omega (arith, full-there c (n / c) n pos refl, mul-le-mul-right c few)
 
-  pub block-words : size ≤ length row → wordsFrom c (length (take size row)) (take (length xs - at * c) (drop (at * c) xs)) ≡ wordsFrom c size (drop (at * c) xs)
-  block-words room = rw (length-take-le size row room, part-to-end (length xs) (at * c) xs refl)
+  pub one-more : size * c ≤ n + c → full < size → (size ≡ full + 1) × (n < full * c + c)
+  one-more fits less = go (decLe (full + 2) size)
+    where
+      all : full ≡ n / c
+      all = omega arith
+
+      go : Dec (full + 2 ≤ size) → (size ≡ full + 1) × (n < full * c + c)
+      go (yes more) = absurd (omega (arith, full-there c full n pos all, mul-le-mul-right c more, add-mul full 2 c))
+      go (no last) = (omega arith, full-there c full n pos all .1)
+
+-- a row of full words but for its last place, into which the word with the closing byte goes
+pub last-row : (c full word : ℕ) (xs row : List ℕ) → Size c → length row ≡ full + 1 → full * c ≤ length xs → length xs < full * c + c
+    → word ≡ littleEndian 4 (drop (full * c) (closed xs))
+    → set (wordsFrom c full xs ++ drop full row) full word ≡ wordsFrom c (length row) (closed xs)
+unfolding wordsFrom
+last-row c full word xs row size long there ends read =
+    let front : List ℕ = wordsFrom c full xs in
+    let rest : length (drop (full * c) (closed xs)) ≤ c = omega (arith, length-drop (full * c) (closed xs), closed-length xs) in
+    let one : (word ∷ []) ≡ wordsFrom c 1 (drop (full * c) (closed xs)) = ap (λ (m : ℕ). m ∷ []) (read ∙ little-filled c 4 (drop (full * c) (closed xs)) rest (size .1)) in
+    ap (λ (l : List ℕ). set (front ++ l) full word)
+    (drop-cons row full 0 (omega arith) ∙ ap (λ (l : List ℕ). getD row full 0 ∷ l) (drop-of-length-le row {i = suc full} (omega arith)))
+    ∙ set-at front (getD row full 0) [] word full (words-length c full xs)
+    ∙ ap₂ (λ (l r : List ℕ). l ++ r) (whole-words c full xs there) one
+    ∙ words-append c full 1 (closed xs)
+    ∙ ap (λ (t : ℕ). wordsFrom c t (closed xs)) (sym long)
+
+-- t words, of which only the last can want bytes: each of them starts within the message
+pub word-starts : (c t at n : ℕ) → at < t → t * c ≤ n + c → at * c ≤ n
+word-starts c t at n lt there = omega (arith, suc-mul at c, mul-le-mul-right c lt)
+
+-- a block of the t words, lent as the part from its place on: it has as many bytes as are wanted, and its words are those of the message
+module _ (c t at size : ℕ) (xs row : List ℕ) (there : t * c ≤ length xs + c) (inside : at + size ≤ t) (more : at < t) where
+  starts : at * c ≤ length xs
+  starts = word-starts c t at (length xs) more there
+
+  pub block-fits : size ≤ length row → length (take size row) * c ≤ length (take (length xs - at * c) (drop (at * c) xs)) + c
+  block-fits room =
+      rw (length-take-le size row room, part-to-end (length xs) (at * c) xs refl, length-drop (at * c) xs)
+      (omega (arith, starts, add-mul at size c, mul-le-mul-right c inside))
+
+  pub block-words : size ≤ length row
+      → wordsFrom c (length (take size row)) (closed (take (length xs - at * c) (drop (at * c) xs))) ≡ wordsFrom c size (drop (at * c) (closed xs))
+  block-words room = rw (length-take-le size row room, part-to-end (length xs) (at * c) xs refl) (ap (wordsFrom c size) (sym (closed-drop (at * c) xs starts)))
 
 -- no words add nothing to zeros
 pub sums-nothing : (w n c : ℕ) (xs ks : List ℕ) → w ≤ 32 → replicate 8 0 ≡ sumsFrom w n c 0 xs ks
@@ -49,10 +91,10 @@ sums-nothing w n c xs ks le =
 -- the sums of a part more: its words, under the key from its place on
 pub sums-step : (w n c : ℕ) (xs ks : List ℕ) (at size end : ℕ) (block part sums : List ℕ) → w ≤ 32
     → at + size ≡ end
-    → block ≡ wordsFrom c size (drop (at * c) xs)
+    → block ≡ wordsFrom c size (drop (at * c) (closed xs))
     → part ≡ drop at ks
     → sums ≡ sumsFrom w n c at xs ks
     → leafSums w n block part sums ≡ sumsFrom w n c end xs ks
 sums-step w n c xs ks at size end block part sums le next words keys before =
-    let both = leaf-append w n le (wordsFrom c at xs) (wordsFrom c size (drop (at * c) xs)) ks (replicate 8 0) in
-    rw (words, keys, before, ← next, ← words-append c at size xs) (rw (words-length c at xs) at both)
+    let both = leaf-append w n le (wordsFrom c at (closed xs)) (wordsFrom c size (drop (at * c) (closed xs))) ks (replicate 8 0) in
+    rw (words, keys, before, ← next, ← words-append c at size (closed xs)) (rw (words-length c at (closed xs)) at both)

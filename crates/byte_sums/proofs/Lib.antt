@@ -1,3 +1,5 @@
+pub mod Closing
 pub mod Words
 pub mod Blocks
 pub mod FromBytes
+pub mod Closed

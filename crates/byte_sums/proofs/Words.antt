@@ -1,15 +1,15 @@
 -- Words made of bytes: each of them, their number, words in two parts, and words written one by one.
-use mathlib.Core.Path.{_≡_, refl, sym, ap, _∙_}
+use mathlib.Core.Path.{_≡_, refl, sym, ap, ap₂, _∙_}
 use mathlib.Core.List.{List, [], _∷_, _++_}
 use Prim.Native.Nat.{ℕ, zero, suc, _+_, _*_, _/_, _%_, _≤_, _<_}
-use native.Mathlib.Nat.{zero-add, add-zero, add-assoc, suc-add, zero-mul, suc-mul, div-add-mod', mod-lt, div-eq-of-lt-le}
+use native.Mathlib.Nat.{zero-add, add-zero, add-assoc, suc-add, zero-mul, suc-mul, div-add-mod', mod-lt, div-eq-of-lt-le, le-mul-of-pos-right, add-mul}
 use native.Mathlib.Numerals.{add-one}
 use native.Mathlib.Omega.{arith}
-use lib.ListN.{length, getD, drop, length-drop}
-use lib.Seq.{getD-drop, drop-drop}
+use lib.ListN.{length, getD, drop, replicate, length-drop}
+use lib.Seq.{getD-drop, drop-drop, drop-nil, drop-append-le}
 use Rattle.rows.specs.Written.{table, written}
 use Rattle.rows.proofs.Written.{written-all}
-use Rattle.byte_sums.specs.Bytes.{littleEndian, wordsFrom, countOf, Size}
+use Rattle.byte_sums.specs.Bytes.{littleEndian, wordsFrom, countOf}
 
 -- the bytes of a word, one by one
 module _ (c at : ℕ) (xs : List ℕ) where
@@ -38,6 +38,28 @@ little-filled zero d (x ∷ xs) le more = absurd (omega arith)
 little-filled (suc c) zero (x ∷ xs) le more = absurd (omega arith)
 little-filled (suc c) (suc d) (x ∷ xs) le more = ap (λ (n : ℕ). x + 256 * n) (little-filled c d xs (omega arith) (omega arith))
 
+-- no bytes make zero words
+pub words-none : (c t : ℕ) → wordsFrom c t [] ≡ replicate t 0
+unfolding wordsFrom
+words-none c zero = refl
+words-none c (suc t) = ap₂ (λ (x : ℕ) (l : List ℕ). x ∷ l) (little-none c) (ap (wordsFrom c t) (drop-nil c) ∙ words-none c t)
+
+-- bytes after those of the words change nothing
+little-front : (c : ℕ) (xs ys : List ℕ) → c ≤ length xs → littleEndian c (xs ++ ys) ≡ littleEndian c xs
+unfolding littleEndian
+little-front zero xs ys le = refl
+little-front (suc c) [] ys le = absurd (omega arith)
+little-front (suc c) (x ∷ xs) ys le = ap (λ (n : ℕ). x + 256 * n) (little-front c xs ys (omega arith))
+
+pub words-front : (c t : ℕ) (xs ys : List ℕ) → t * c ≤ length xs → wordsFrom c t (xs ++ ys) ≡ wordsFrom c t xs
+unfolding wordsFrom
+words-front c zero xs ys le = refl
+words-front c (suc t) xs ys le =
+    let room : c + t * c ≤ length xs = omega (arith, suc-mul t c) in
+    ap₂ (λ (x : ℕ) (l : List ℕ). x ∷ l)
+    (little-front c xs ys (omega arith))
+    (ap (wordsFrom c t) (drop-append-le c xs ys (omega arith)) ∙ words-front c t (drop c xs) ys (omega (arith, length-drop c xs)))
+
 pub words-length : (c t : ℕ) (xs : List ℕ) → length (wordsFrom c t xs) ≡ t
 unfolding wordsFrom
 words-length c zero xs = refl
@@ -63,25 +85,19 @@ words-table c (suc t) xs =
 pub words-written : (c t : ℕ) (xs old : List ℕ) → length old ≡ t → written (λ i. littleEndian c (drop (i * c) xs)) t old ≡ wordsFrom c (length old) xs
 words-written c t xs old e = written-all _ old t e ∙ words-table c t xs ∙ ap (λ (n : ℕ). wordsFrom c n xs) (sym e)
 
--- the full words, and a last one that is not full and counts as one
+-- the message's own full words, and that there is a word more
 module _ (c full n : ℕ) (pos : 1 ≤ c) (is : full ≡ n / c) where
   pub full-there : (full * c ≤ n) × (n < full * c + c)
   full-there =
       let whole : full * c + n % c ≡ n = ap (λ (q : ℕ). q * c + n % c) is ∙ div-add-mod' n c in
       omega (arith, mod-lt n pos)
 
-  pub count-more : full * c < n → countOf c n ≡ full + 1
-  unfolding countOf
-  count-more more = let ends = full-there in div-eq-of-lt-le c (omega arith) (omega arith)
+  pub full-few : full ≤ n
+  full-few = omega (arith, full-there, le-mul-of-pos-right full pos)
 
-  pub count-exact : n ≤ full * c → countOf c n ≡ full
-  unfolding countOf
-  count-exact none = let ends = full-there in div-eq-of-lt-le c (omega arith) (omega arith)
+  pub words-room : (full + 1) * c ≤ n + c
+  words-room = omega (arith, full-there, add-mul full 1 c)
 
--- the last word as the code reads it: four bytes, with zeros past the end
-pub last-word : (c full word : ℕ) (xs : List ℕ) → Size c → full ≡ length xs / c → word ≡ littleEndian 4 (drop (full * c) xs)
-    → (word ∷ []) ≡ wordsFrom c 1 (drop (full * c) xs)
-unfolding wordsFrom
-last-word c full word xs size is read =
-    let ends = full-there c full (length xs) (size .0) is in
-    ap (λ (m : ℕ). m ∷ []) (read ∙ little-filled c 4 (drop (full * c) xs) (omega (arith, length-drop (full * c) xs)) (size .1))
+  pub count-closed : countOf c (n + 1) ≡ full + 1
+  unfolding countOf
+  count-closed = let ends = full-there in div-eq-of-lt-le c (omega arith) (omega arith)

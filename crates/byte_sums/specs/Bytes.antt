@@ -1,13 +1,13 @@
--- A message of bytes as words (document 01, "Bytes"). A word of width 8, 16 or 32 has 1, 2 or 4 bytes.
+-- A message of bytes as words (document 01, "Bytes"; closed as document 02, "One", says). A word of width 8, 16 or 32 has 1, 2 or 4 bytes.
 use mathlib.Core.Bool.{cond}
 use mathlib.Core.Logic.{_≢_}
-use mathlib.Core.List.{List, [], _∷_}
+use mathlib.Core.List.{List, [], _∷_, _++_}
 use Prim.Native.Nat.{ℕ, zero, suc, _+_, _*_, _-_, _/_, _≤_}
 use lib.ListN.{length, getD, drop, replicate}
 use Rattle.answers.specs.Table.{badByteWidth}
 use Rattle.sums.specs.Sums.{leafSums}
 
--- "the first byte lowest": the number of the first c bytes. A byte past the end counts as 0, so that a last word is filled up with zero bytes
+-- 01, "Bytes": "the first byte lowest": the number of the first c bytes. A byte past the end counts as 0, so that a last word is filled up with zero bytes
 unfoldable pub littleEndian : ℕ → List ℕ → ℕ
 littleEndian zero xs = 0
 littleEndian (suc c) xs = getD xs 0 0 + 256 * littleEndian c (drop 1 xs)
@@ -17,28 +17,33 @@ unfoldable pub wordsFrom : ℕ → ℕ → List ℕ → List ℕ
 wordsFrom c zero xs = []
 wordsFrom c (suc t) xs = littleEndian c xs ∷ wordsFrom c t (drop c xs)
 
--- how many words of c bytes so many bytes fill, the last perhaps not full; none for no bytes
+-- how many words of c bytes so many bytes fill, the last perhaps not full
 unfoldable pub countOf : ℕ → ℕ → ℕ
 countOf c bytes = (bytes + (c - 1)) / c
 
-abbrev pub wordCount : ℕ → List ℕ → ℕ
-wordCount c xs = countOf c (length xs)
+-- 02, "One": a closed message has the byte 0x80 after its last, and that byte alone where it has none
+unfoldable pub closed : List ℕ → List ℕ
+closed xs = xs ++ (0x80 ∷ [])
 
--- 01, "Bytes": the words of these bytes at width w
+-- 02, "One": bytes as words of width w, the last filled up with zeros
+unfoldable pub inWords : ℕ → List ℕ → List ℕ
+inWords w xs = wordsFrom (w / 8) (countOf (w / 8) (length xs)) xs
+
+-- the words of these bytes at width w
 unfoldable pub wordsOf : ℕ → List ℕ → List ℕ
-wordsOf w xs = wordsFrom (w / 8) (wordCount (w / 8) xs) xs
+wordsOf w xs = inWords w (closed xs)
 
--- how many words of a byte width so many bytes fill, and 0 at any other width
-unfoldable pub wordsIn : ℕ → ℕ → ℕ
-wordsIn w bytes = cond (badByteWidth w) 0 (countOf (w / 8) bytes)
+-- how many they are at a byte width, and 0 at any other width
+unfoldable pub wordsIn : ℕ → List ℕ → ℕ
+wordsIn w xs = cond (badByteWidth w) 0 (length (wordsOf w xs))
 
 -- the bytes in a word of a byte width: 1, 2 or 4
 abbrev pub Size : ℕ → Type 0
 Size c = (1 ≤ c) × (c ≤ 4) × (c ≢ 3)
 
--- the first t words of c bytes, summed from zero
+-- the first t words of c bytes of the closed message, summed from zero
 abbrev pub sumsFrom : ℕ → ℕ → ℕ → ℕ → List ℕ → List ℕ → List ℕ
-sumsFrom w n c t xs ks = leafSums w n (wordsFrom c t xs) ks (replicate 8 0)
+sumsFrom w n c t xs ks = leafSums w n (wordsFrom c t (closed xs)) ks (replicate 8 0)
 
 -- what the code's n sums of bytes are: those of the words at a byte width, and zeros at any other
 unfoldable pub leafBytes : ℕ → ℕ → List ℕ → List ℕ → List ℕ

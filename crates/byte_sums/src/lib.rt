@@ -1,12 +1,12 @@
-// The sums of a message of bytes: its words are decoded block by block, and each block is summed as words are.
+// The sums of a message of bytes: the words of the closed message are decoded block by block, and each block is summed as words are.
 ghost use mathlib.Core.Path.{_≡_};
 ghost use Prim.Native.Nat.{_+_, _*_, _/_, _≤_, _<_};
 ghost use lib.ListN.{length, getD, drop};
 ghost use Rattle.sums.specs.Sums.{leafSums};
-ghost use Rattle.byte_sums.specs.Bytes.{littleEndian, wordsFrom, wordCount, wordsIn, Size, sumsFrom, leafBytes};
+ghost use Rattle.byte_sums.specs.Bytes.{littleEndian, wordsFrom, closed, wordsIn, Size, sumsFrom, leafBytes};
 
 // The n sums of the words that the bytes make, at widths 8, 16 and 32; zeros at any other.
-// Key words past the key's end count as 0.
+// Key words past the key's end count as 0. A short message is one block, in a row that costs less to make.
 pub fn sums_of_bytes(w: u32, n: usize, message: &[u8], key: &[u32]) -> [u32; 8]
     ensures { λ r. ⌜ r ≡ leafBytes w n (now (message .entry)) (now (key .entry)) ⌝ }
 {
@@ -14,48 +14,53 @@ pub fn sums_of_bytes(w: u32, n: usize, message: &[u8], key: &[u32]) -> [u32; 8]
         return [0; 8];
     }
     let c = (w / 8) as usize;
-    let full = message.len() / c;
-    let sums = sum_full(w, c, n, full, message, key);
-    sum_last(w, c, n, full, message, key, sums)
+    let t = full_words(c, message.len()) + 1;
+    if t <= 64 {
+        let mut row = [0u32; 64];
+        return sum_block(w, c, n, message, key, &mut row[..t], [0; 8]);
+    }
+    if t <= 256 {
+        let mut row = [0u32; 256];
+        return sum_block(w, c, n, message, key, &mut row[..t], [0; 8]);
+    }
+    sum_blocks(w, c, n, t, message, key)
 }
 
-// How many words of a byte width the bytes fill, the last perhaps not full; 0 at any other width.
-pub fn words_in(w: u32, bytes: usize) -> usize
-    ensures { λ r. ⌜ r ≡ wordsIn w bytes ⌝ }
+// How many words of a byte width the bytes make; 0 at any other width.
+pub fn words_in(w: u32, message: &[u8]) -> usize
+    ensures { λ r. ⌜ r ≡ wordsIn w (now (message .entry)) ⌝ }
 {
     if answers::table::bad_byte_width(w) {
         return 0;
     }
     let c = (w / 8) as usize;
-    let full = bytes / c;
-    if full * c < bytes {
-        return full + 1;
-    }
-    full
+    full_words(c, message.len()) + 1
 }
 
-// The sums of the full words. A short message is one block, in a row that costs little to make.
-fn sum_full(w: u32, c: usize, n: usize, full: usize, message: &[u8], key: &[u32]) -> [u32; 8]
-    requires { ⌜ (w ≤ 32) × Size c × (full * c ≤ length (now message)) ⌝ }
-    ensures { λ r. ⌜ r ≡ sumsFrom w n c full (now (message .entry)) (now (key .entry)) ⌝ }
+// How many words of c bytes so many bytes fill. A division for each size: the compiler makes a shift of each.
+fn full_words(c: usize, bytes: usize) -> usize
+    requires { ⌜ Size c ⌝ }
+    ensures { λ r. ⌜ r ≡ bytes / c ⌝ }
 {
-    if full <= 64 {
-        let mut row = [0u32; 64];
-        return sum_block(w, c, n, message, key, &mut row[..full], [0; 8]);
+    if c == 1 {
+        return bytes;
     }
-    sum_blocks(w, c, n, full, message, key)
+    if c == 2 {
+        return bytes / 2;
+    }
+    bytes / 4
 }
 
-// The same, a block of at most 256 words at a time.
-fn sum_blocks(w: u32, c: usize, n: usize, full: usize, message: &[u8], key: &[u32]) -> [u32; 8]
-    requires { ⌜ (w ≤ 32) × Size c × (full * c ≤ length (now message)) ⌝ }
-    ensures { λ r. ⌜ r ≡ sumsFrom w n c full (now (message .entry)) (now (key .entry)) ⌝ }
+// The sums of t words, a block of at most 512 at a time.
+fn sum_blocks(w: u32, c: usize, n: usize, t: usize, message: &[u8], key: &[u32]) -> [u32; 8]
+    requires { ⌜ (w ≤ 32) × Size c × (t * c ≤ length (now message) + c) ⌝ }
+    ensures { λ r. ⌜ r ≡ sumsFrom w n c t (now (message .entry)) (now (key .entry)) ⌝ }
 {
-    let mut row = [0u32; 256];
+    let mut row = [0u32; 512];
     let mut sums = [0u32; 8];
     let mut at = 0;
-    while at < full {
-        let end = rows::lesser(full, at + 256);
+    while at < t {
+        let end = rows::lesser(t, at + 512);
         let size = end - at;
         let start = at * c;
         let from = rows::lesser(at, key.len());
@@ -74,7 +79,7 @@ fn sum_blocks(w: u32, c: usize, n: usize, full: usize, message: &[u8], key: &[u3
     sums
 }
 
-// The sums with as many full words as the row has places, into which they are decoded.
+// The sums with as many words as the row has places, into which they are decoded.
 fn sum_block(
     w: u32,
     c: usize,
@@ -84,37 +89,28 @@ fn sum_block(
     row: &mut [u32],
     sums: [u32; 8],
 ) -> [u32; 8]
-    requires { ⌜ Size c × (length (now row) * c ≤ length (now bytes)) ⌝ }
-    ensures { λ r. ⌜ r ≡ leafSums w n (wordsFrom c (length (now (row .entry))) (now (bytes .entry))) (now (key .entry)) sums ⌝ }
+    requires { ⌜ Size c × (length (now row) * c ≤ length (now bytes) + c) ⌝ }
+    ensures { λ r. ⌜ r ≡ leafSums w n (wordsFrom c (length (now (row .entry))) (closed (now (bytes .entry)))) (now (key .entry)) sums ⌝ }
 {
     decode(c, bytes, row);
     sums::many::add_sums(w, n, row, key, sums)
 }
 
-// The sums with the last word, where it is not full: a message of one word, under the key from its place on.
-fn sum_last(
-    w: u32,
-    c: usize,
-    n: usize,
-    full: usize,
-    message: &[u8],
-    key: &[u32],
-    sums: [u32; 8],
-) -> [u32; 8]
-    requires { ⌜ (w ≤ 32) × Size c × (full ≡ length (now message) / c) × (sums ≡ sumsFrom w n c full (now message) (now key)) ⌝ }
-    ensures { λ r. ⌜ r ≡ sumsFrom w n c (wordCount c (now (message .entry))) (now (message .entry)) (now (key .entry)) ⌝ }
+// As many words as the row has places. Only the last of them can lack bytes of the message; it then has the closing byte.
+fn decode(c: usize, bytes: &[u8], row: &mut [u32])
+    requires { ⌜ Size c × (length (now row) * c ≤ length (now bytes) + c) ⌝ }
+    ensures { λ r. ⌜ now (row .exit) ≡ wordsFrom c (length (now (row .entry))) (closed (now (bytes .entry))) ⌝ }
 {
-    let start = full * c;
-    if start < message.len() {
-        let word = [last(message, start)];
-        let from = rows::lesser(full, key.len());
-        return sums::many::add_sums(w, n, &word, &key[from..], sums);
+    let full = rows::lesser(row.len(), full_words(c, bytes.len()));
+    let at = full * c;
+    decode_full(c, bytes, &mut row[..full]);
+    if full < row.len() {
+        row[full] = last(bytes, at);
     }
-    sums
 }
 
 // As many full words as the row has places. A call for each size: the compiler makes a loop of its own of each.
-fn decode(c: usize, bytes: &[u8], row: &mut [u32])
+fn decode_full(c: usize, bytes: &[u8], row: &mut [u32])
     requires { ⌜ Size c × (length (now row) * c ≤ length (now bytes)) ⌝ }
     ensures { λ r. ⌜ now (row .exit) ≡ wordsFrom c (length (now (row .entry))) (now (bytes .entry)) ⌝ }
 {
@@ -154,24 +150,28 @@ fn load(bytes: &[u8], at: usize, c: usize) -> u32
     join(bytes[at], bytes[at + 1], bytes[at + 2], bytes[at + 3])
 }
 
-// The word at a place of the bytes, filled up with zero bytes.
+// The word at a place of the closed message, filled up with zero bytes.
 fn last(bytes: &[u8], at: usize) -> u32
-    requires { ⌜ at < length (now bytes) ⌝ }
-    ensures { λ r. ⌜ r ≡ littleEndian 4 (drop at (now (bytes .entry))) ⌝ }
+    requires { ⌜ at ≤ length (now bytes) ⌝ }
+    ensures { λ r. ⌜ r ≡ littleEndian 4 (drop at (closed (now (bytes .entry)))) ⌝ }
 {
     join(
-        byte_or_zero(bytes, at),
-        byte_or_zero(bytes, at + 1),
-        byte_or_zero(bytes, at + 2),
-        byte_or_zero(bytes, at + 3),
+        byte_at(bytes, at),
+        byte_at(bytes, at + 1),
+        byte_at(bytes, at + 2),
+        byte_at(bytes, at + 3),
     )
 }
 
-fn byte_or_zero(bytes: &[u8], i: usize) -> u8
-    ensures { λ r. ⌜ r ≡ getD (now (bytes .entry)) i 0 ⌝ }
+// A byte of the closed message, and 0 past its end: so the closing byte needs no copy of the message.
+fn byte_at(bytes: &[u8], i: usize) -> u8
+    ensures { λ r. ⌜ r ≡ getD (closed (now (bytes .entry))) i 0 ⌝ }
 {
     if i < bytes.len() {
         return bytes[i];
+    }
+    if i == bytes.len() {
+        return 0x80;
     }
     0
 }

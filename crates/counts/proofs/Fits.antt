@@ -1,11 +1,11 @@
--- Rows of words that fit a width: in parts, and zeros.
+-- Rows of words that fit a width: in parts, zeros, and word by word.
 use mathlib.Core.Path.{_≡_, refl, sym, ap, _∙_}
 use mathlib.Core.Bool.{Bool, true, false, _&&_, and-assoc, true≢false}
 use mathlib.Core.List.{List, [], _∷_, _++_}
-use Prim.Native.Nat.{ℕ, zero, suc, _^_}
+use Prim.Native.Nat.{ℕ, zero, suc, _^_, _<_}
 use lib.Dec.{ltb}
 use lib.Pow.{pow-pos}
-use lib.ListN.{take, drop, replicate, take-append-drop}
+use lib.ListN.{getD, take, drop, replicate, take-append-drop}
 use borrow.Author.Tests.{lt-ltb}
 use Rattle.counts.specs.Digest.{fits}
 
@@ -27,3 +27,9 @@ pub fits-zeros : (w n : ℕ) → fits w (replicate n 0) ≡ true
 unfolding fits
 fits-zeros w zero = refl
 fits-zeros w (suc n) = rw (lt-ltb 0 (2 ^ w) (pow-pos w)) (fits-zeros w n)
+
+-- a row whose words are all below 2^w
+pub fits-each : (w : ℕ) (xs : List ℕ) → ((i : ℕ) → getD xs i 0 < 2 ^ w) → fits w xs ≡ true
+unfolding fits
+fits-each w [] h = refl
+fits-each w (x ∷ xs) h = rw (lt-ltb x (2 ^ w) (h 0)) (fits-each w xs (λ i. h (suc i)))

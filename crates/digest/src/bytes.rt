@@ -20,12 +20,12 @@ pub fn digest_bytes(w: u32, b: u32, n: u32, message: &[u8], key: &[u32], out: &m
     0
 }
 
-// The first test that refuses the call, else 0. The words of bytes always fit.
+// The first test that refuses the call, else 0. The words of bytes always fit, so the last test looks at the key alone.
 fn judge(w: u32, b: u32, n: u32, message: &[u8], key: &[u32], out: &[u32]) -> u32
     ensures { λ r. ⌜ r ≡ bytesAnswer w b n (now (message .entry)) (now (key .entry)) (now (out .entry)) ⌝ }
 {
     let words = n as usize;
-    let t = byte_sums::words_in(w, message.len());
+    let t = byte_sums::words_in(w, message);
     if table::bad_byte_width(w) {
         return answers::WIDTH;
     }
@@ -43,6 +43,10 @@ fn judge(w: u32, b: u32, n: u32, message: &[u8], key: &[u32], out: &[u32]) -> u3
     }
     if table::small_tray(words, out.len()) {
         return answers::TRAY;
+    }
+    // Every word is below 2^32.
+    if w == 32 {
+        return 0;
     }
     if table::bad_words(w, &key[..0], key) {
         return answers::WORD;

@@ -49,9 +49,9 @@ caseF = case (called 8 8 1 [] (7 ∷ [])) (0 ∷ 0x00 ∷ [])
 abbrev pub caseG : Case
 caseG = case (readRow (pushState (openState 8 8 2 (10 ∷ 20 ∷ [])) (3 ∷ []) (100 ∷ [])) (0 ∷ 0 ∷ [])) (0x1e ∷ 0x3d ∷ [])
 
--- H: bytes 01 02 03 at width 16 are the words 0x0201 0x0003
+-- H: bytes 01 02 03 at width 16 are the words 0x0201 0x8003 (document 02, "One")
 abbrev pub caseH : Case
-caseH = case (wordsOf 16 (0x01 ∷ 0x02 ∷ 0x03 ∷ [])) (0x0201 ∷ 0x0003 ∷ [])
+caseH = case (wordsOf 16 (0x01 ∷ 0x02 ∷ 0x03 ∷ [])) (0x0201 ∷ 0x8003 ∷ [])
 
 -- I: w 2, t 1, n 1, b 2: messages 1 and 3 agree under 6 of 16 keys; the bound, 2^(w·t + n + n·(w−b)), is 8
 abbrev pub caseI : Case

@@ -34,8 +34,10 @@ Usage: pairing digest [--width W] [--kept B] [--words N] (--seed S | --key FILE)
     options_help!(),
     "  FILE         the message; - is standard input
 
-Bytes fill words with the first byte lowest, and zero bytes fill up the last
-word. Prints the digest words, each as eight hexadecimal digits.
+The byte 0x80 closes the message, also an empty one, so that zero bytes at its
+end count. Closed, it fills words with the first byte lowest, and zero bytes
+fill up the last word: of 32 bits, 7 bytes are 2 words, and 8 bytes are 3.
+Prints the digest words, each as eight hexadecimal digits.
 "
 );
 

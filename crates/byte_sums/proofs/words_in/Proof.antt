@@ -1,12 +1,12 @@
--- `byte_sums::words_in` meets its contract: a word that is not full counts as one.
-use mathlib.Core.Path.{_≡_, refl, sym, _∙_}
+-- `byte_sums::words_in` meets its contract: the full words, and one more with the closing byte.
+use mathlib.Core.Path.{_≡_, sym, ap, _∙_}
 use mathlib.Core.Bool.{false}
-use Prim.Native.Nat.{_/_}
-use native.Mathlib.Nat.{le-mul-of-pos-right}
+use Prim.Native.Nat.{ℕ, _+_, _/_}
 use native.Mathlib.Omega.{arith}
+use lib.ListN.{length}
 use Rattle.answers.specs.Table.{badByteWidth}
-use Rattle.byte_sums.proofs.Words.{full-there, count-more, count-exact}
-use Rattle.byte_sums.proofs.FromBytes.{byte-width, words-elsewhere, words-count}
+use Rattle.byte_sums.proofs.Words.{full-few}
+use Rattle.byte_sums.proofs.FromBytes.{byte-width, words-elsewhere, words-in, words-count}
 use borrow.Author.Needs.{needs}
 use Rattle.byte_sums.proofs.words_in.Statement.{statement}
 use Rattle.byte_sums.proofs.words_in.Tie as tie
@@ -16,46 +16,25 @@ bad-byte-width-requires c κs = search needs
 
 returns : tie.Need-returns
 returns c =
-    let a = c .before .before .args in
-    sym (words-elsewhere (a .w) (cc) (a .bytes))
+    let a = c .before .before .before .args in
+    sym (words-elsewhere (a .w) (cc) (a .message .now))
 
 cast-c : tie.Need-cast-c
 cast-c c = search needs
 
-div-full : tie.Need-div-full
-div-full c = byte-width (c .before .before .args .w) (cc) .1 .0
-
-mul-if2 : tie.Need-mul-if2
-mul-if2 c =
-    let a = c .before .before .args in
-    omega (arith, full-there (a .w / 8) (a .bytes / (a .w / 8)) (a .bytes) (byte-width (a .w) (cc) .1 .0) refl)
+full-words-requires : tie.Need-full-words-requires
+full-words-requires c κs = byte-width (c .before .before .before .args .w) (cc) .1
 
 add-result : tie.Need-add-result
 add-result c =
-    let a = c .before .before .before .args in
-    omega (arith, le-mul-of-pos-right (a .bytes / (a .w / 8)) (byte-width (a .w) (cc) .1 .0))
+    let a = c .before .before .before .before .args in
+    omega (arith, full-few (a .w / 8) _ (length (a .message .now)) (byte-width (a .w) (cc) .1 .0) (c .full-words .ensures))
 
 returns-2 : tie.Need-returns-2
 returns-2 c =
-    let a = c .before .before .before .args in
+    let a = c .before .before .before .before .args in
     let good : badByteWidth (a .w) ≡ false = cc in
-    sym (words-count (a .w) good (a .bytes) ∙ count-more (a .w / 8) _ (a .bytes) (byte-width (a .w) good .1 .0) refl (c .if2 .taken))
-
-returns-3 : tie.Need-returns-3
-returns-3 c =
-    let a = c .before .before .before .args in
-    let good : badByteWidth (a .w) ≡ false = cc in
-    sym (words-count (a .w) good (a .bytes) ∙ count-exact (a .w / 8) _ (a .bytes) (byte-width (a .w) good .1 .0) refl (c .if2 .left))
+    sym (words-in (a .w) (a .message .now) good ∙ words-count (a .w) (a .message .now) good ∙ ap (λ (q : ℕ). q + 1) (sym (c .full-words .ensures)))
 
 pub words-in-spec : {M : Type 1} → statement M
-words-in-spec =
-    tie.close
-    (tie.spec
-    bad-byte-width-requires
-    returns
-    cast-c
-    div-full
-    mul-if2
-    add-result
-    returns-2
-    returns-3)
+words-in-spec = tie.close (tie.spec bad-byte-width-requires returns cast-c full-words-requires add-result returns-2)

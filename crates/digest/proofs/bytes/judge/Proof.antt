@@ -1,12 +1,15 @@
 -- `digest::bytes::judge` meets its contract: each return is the first test that holds. At a byte width the words are as many
 -- as the code counts, and they fit.
-use mathlib.Core.Path.{_≡_, sym, _∙_}
+use mathlib.Core.Path.{_≡_, sym, subst, _∙_}
+use mathlib.Core.Bool.{true, false}
 use mathlib.Core.List.{[]}
+use Prim.Native.Nat.{ℕ}
 use native.Mathlib.Omega.{arith}
 use lib.ListN.{length}
 use Rattle.counts.specs.Digest.{fits}
+use Rattle.counts.proofs.Fits.{fits-each}
 use Rattle.answers.specs.Table.{badWords}
-use Rattle.answers.proofs.Judged.{judged, long-passed}
+use Rattle.answers.proofs.Judged.{judged, long-passed, words-pass}
 use Rattle.byte_sums.specs.Bytes.{wordsOf}
 use Rattle.byte_sums.proofs.FromBytes.{words-in, bytes-fit}
 use Rattle.digest.specs.Bytes.{bytesAnswer}
@@ -19,13 +22,24 @@ counted c =
     let a = c .before .before .before .before .before .before .args in
     c .before .before .words-in .ensures ∙ words-in (a .w) (a .message .now) (sym (c .before .bad-byte-width .ensures) ∙ c .if1 .left)
 
+words-fit : (c : tie.Else1) → fits (c .before .before .before .before .before .before .args .w) (wordsOf (c .before .before .before .before .before .before .args .w) (c .before .before .before .before .before .before .args .message .now)) ≡ true
+words-fit c =
+    let a = c .before .before .before .before .before .before .args in
+    bytes-fit (a .w) (a .message .now) (sym (c .before .bad-byte-width .ensures) ∙ c .if1 .left) (λ i. omega (arith, c .before .before .before .before .before .shared-slice-known .given i))
+
 fitting : (c : tie.Else1)
     → badWords (c .before .before .before .before .before .before .args .w) (wordsOf (c .before .before .before .before .before .before .args .w) (c .before .before .before .before .before .before .args .message .now)) (c .before .before .before .before .before .before .args .key .now)
     ≡ badWords (c .before .before .before .before .before .before .args .w) [] (c .before .before .before .before .before .before .args .key .now)
 unfolding badWords fits
-fitting c =
+fitting c = rw (words-fit c)
+
+-- at width 32 every word fits, the key's too
+every-word : (c : tie.Else1) → c .before .before .before .before .before .before .args .w ≡ 32
+    → badWords (c .before .before .before .before .before .before .args .w) (wordsOf (c .before .before .before .before .before .before .args .w) (c .before .before .before .before .before .before .args .message .now)) (c .before .before .before .before .before .before .args .key .now) ≡ false
+every-word c e =
     let a = c .before .before .before .before .before .before .args in
-    rw (bytes-fit (a .w) (a .message .now) (sym (c .before .bad-byte-width .ensures) ∙ c .if1 .left) (λ i. omega (arith, c .before .before .before .before .before .shared-slice-known .given i)))
+    words-pass (a .w) (wordsOf (a .w) (a .message .now)) (a .key .now) (words-fit c)
+    (subst (λ (v : ℕ). fits v (a .key .now) ≡ true) (sym e) (fits-each 32 (a .key .now) (λ i. omega (arith, c .before .before .before .before .shared-slice-known2 .given i))))
 
 words-in-requires : tie.Need-words-in-requires
 words-in-requires c κs = search needs
@@ -75,22 +89,28 @@ returns-6 : tie.Need-returns-6
 unfolding bytesAnswer
 returns-6 c = sym (rw (← counted (c .before .before .before .before .before .before .before .before .before .before)) (search judged depth 9))
 
+returns-7 : tie.Need-returns-7
+unfolding bytesAnswer
+returns-7 c =
+    let width = c .before .before .before .before .before .before .before .before .before .before .before in
+    sym (rw (← counted width, every-word width (search needs)) (search judged depth 9))
+
 slice-aggregate-bad-words : tie.Need-slice-aggregate-bad-words
 slice-aggregate-bad-words c = search needs
 
 bad-words-requires : tie.Need-bad-words-requires
 bad-words-requires c κs = search needs
 
-returns-7 : tie.Need-returns-7
-unfolding bytesAnswer
-returns-7 c =
-    let width = c .before .before .before .before .before .before .before .before .before .before .before .before .before in
-    sym (rw (← counted width, fitting width) (search judged depth 9))
-
 returns-8 : tie.Need-returns-8
 unfolding bytesAnswer
 returns-8 c =
-    let width = c .before .before .before .before .before .before .before .before .before .before .before .before .before in
+    let width = c .before .before .before .before .before .before .before .before .before .before .before .before .before .before in
+    sym (rw (← counted width, fitting width) (search judged depth 9))
+
+returns-9 : tie.Need-returns-9
+unfolding bytesAnswer
+returns-9 c =
+    let width = c .before .before .before .before .before .before .before .before .before .before .before .before .before .before in
     sym (rw (← counted width, fitting width) (search judged depth 9))
 
 pub judge-spec : {M : Type 1} → statement M
@@ -111,7 +131,8 @@ judge-spec =
     returns-5
     small-tray-requires
     returns-6
+    returns-7
     slice-aggregate-bad-words
     bad-words-requires
-    returns-7
-    returns-8)
+    returns-8
+    returns-9)

@@ -1,0 +1,39 @@
+-- Why a message of bytes is closed: its words then tell it from every other message, zeros after them or not.
+use mathlib.Core.Path.{_≡_}
+use mathlib.Core.Logic.{_≢_}
+use mathlib.Core.List.{List, [], _∷_, _++_}
+use Prim.Native.Nat.{ℕ, _-_, _≤_, _<_}
+use lib.ListN.{length, getD, replicate}
+use Rattle.byte_sums.specs.Bytes.{inWords, wordsOf}
+
+-- a message of bytes, each below 256
+abbrev pub Bytes : List ℕ → Type 0
+Bytes xs = (i : ℕ) → getD xs i 0 < 256
+
+-- words filled up with zero words to T of them
+unfoldable pub filledUp : ℕ → List ℕ → List ℕ
+filledUp T ms = ms ++ replicate (T - length ms) 0
+
+-- what a way to make words of bytes should do: two different messages make words that stay different when the shorter row
+-- is filled up with zero words, to any common length T. For every width of a byte or more
+unfoldable pub KeepsApart : (ℕ → List ℕ → List ℕ) → Type 0
+KeepsApart words =
+    (w T : ℕ) (xs ys : List ℕ)
+    → 8 ≤ w
+    → Bytes xs
+    → Bytes ys
+    → xs ≢ ys
+    → length (words w xs) ≤ T
+    → length (words w ys) ≤ T
+    → filledUp T (words w xs) ≢ filledUp T (words w ys)
+
+-- the words of closed messages do
+unfoldable pub ClosedApart : Type 0
+ClosedApart = KeepsApart wordsOf
+
+-- without the closing byte they do not: 5 and 5 0, filled up to two words at width 8, to one at width 16
+unfoldable pub OpenAlike : Type 0
+OpenAlike =
+    (filledUp 2 (inWords 8 (5 ∷ [])) ≡ filledUp 2 (inWords 8 (5 ∷ 0 ∷ [])))
+    × (filledUp 1 (inWords 16 (5 ∷ [])) ≡ filledUp 1 (inWords 16 (5 ∷ 0 ∷ [])))
+    × ¬ KeepsApart inWords
