@@ -12,7 +12,7 @@ unfoldable pub littleEndian : ℕ → List ℕ → ℕ
 littleEndian zero xs = 0
 littleEndian (suc c) xs = getD xs 0 0 + 256 * littleEndian c (drop 1 xs)
 
--- t words of c bytes
+-- 01, "Bytes": t words of c bytes
 unfoldable pub wordsFrom : ℕ → ℕ → List ℕ → List ℕ
 wordsFrom c zero xs = []
 wordsFrom c (suc t) xs = littleEndian c xs ∷ wordsFrom c t (drop c xs)
@@ -29,11 +29,11 @@ closed xs = xs ++ (0x80 ∷ [])
 unfoldable pub inWords : ℕ → List ℕ → List ℕ
 inWords w xs = wordsFrom (w / 8) (countOf (w / 8) (length xs)) xs
 
--- the words of these bytes at width w
+-- 02, "One": the words of these bytes at width w, closed and then filled up
 unfoldable pub wordsOf : ℕ → List ℕ → List ℕ
 wordsOf w xs = inWords w (closed xs)
 
--- how many they are at a byte width, and 0 at any other width
+-- how many they are at a byte width, which Long counts; 0 at any other width
 unfoldable pub wordsIn : ℕ → List ℕ → ℕ
 wordsIn w xs = cond (badByteWidth w) 0 (length (wordsOf w xs))
 

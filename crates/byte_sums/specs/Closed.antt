@@ -1,4 +1,5 @@
--- Why a message of bytes is closed: its words then tell it from every other message, zeros after them or not.
+-- Why a message of bytes is closed (document 02, "One"): its words then tell it from every other message, zeros after them or not.
+-- Document 02, "Four", counts on it.
 use mathlib.Core.Path.{_≡_}
 use mathlib.Core.Logic.{_≢_}
 use mathlib.Core.List.{List, [], _∷_, _++_}
