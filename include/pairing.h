@@ -16,8 +16,8 @@
  * returns its number and nothing else: every lent row holds what it held.
  *
  * What the counts cover: how many keys make two different messages agree is proved
- * over all keys of t + n words drawn uniformly; a stretched key is one of at most
- * 2^32, and no count is proved for those.
+ * over all keys of t + n words drawn uniformly, n being 1 for a code; a stretched key
+ * is one of at most 2^32, and no count is proved for those.
  */
 #ifndef PAIRING_H
 #define PAIRING_H
@@ -27,9 +27,9 @@
 
 /* The version of this header and of the library that goes with it. */
 #define PAIRING_VERSION_MAJOR 0
-#define PAIRING_VERSION_MINOR 2
+#define PAIRING_VERSION_MINOR 3
 #define PAIRING_VERSION_PATCH 0
-#define PAIRING_VERSION "0.2.0"
+#define PAIRING_VERSION "0.3.0"
 
 /* Makes a compiler that can warn do so where an answer is not used: a refused call
  * has written nothing. */
@@ -57,6 +57,8 @@ enum {
     PAIRING_STATE = 8,
     /* Width: w is not 1 to 32; in the byte digest, not 8, 16 or 32. */
     PAIRING_WIDTH = 1,
+    /* Digits: a code of no digits, or of so many that 10^d is more than 2^w. */
+    PAIRING_DIGITS = 9,
     /* Kept: b is 0 or more than w. */
     PAIRING_KEPT = 2,
     /* Count: n is not 1 to 8. */
@@ -65,9 +67,10 @@ enum {
      * the closing byte; a stretch, more than PAIRING_MOST_KEY_WORDS. */
     PAIRING_LONG = 4,
     /* Key: the key does not have n words more than the message, for bytes counted with
-     * the closing byte. */
+     * the closing byte; for a code, one word more. */
     PAIRING_KEY = 5,
-    /* Tray: the output has fewer than n places; in a match, a row is not n words. */
+    /* Tray: the output has fewer than n places, for a code fewer than (d + 1) / 2; in a
+     * match, a row is not n words. */
     PAIRING_TRAY = 6,
     /* Word: a message or key word is 2^w or more. */
     PAIRING_WORD = 7,
@@ -87,13 +90,17 @@ enum {
 /* The most words that a digest has, and so the largest n. */
 #define PAIRING_MOST_DIGEST_WORDS 8
 
+/* The most digits that a code has, at widths 30 to 32, and the most bytes. */
+#define PAIRING_MOST_CODE_DIGITS 9
+#define PAIRING_MOST_CODE_BYTES 5
+
 /*
  * Digests the message under the key: words of w bits, the low b bits of each
  * digest word kept, n digest words. The key has n words more than the message.
  *
  * Answers PAIRING_ACCEPTED with the digest in the first n places of out, places
- * from n on keeping what they held; or one of PAIRING_WIDTH to PAIRING_WORD.
- * Message and key are only read.
+ * from n on keeping what they held; or PAIRING_WIDTH, or one of PAIRING_KEPT to
+ * PAIRING_WORD. Message and key are only read.
  */
 PAIRING_USE_ANSWER
 uint32_t pairing_digest_words(uint32_t w, uint32_t b, uint32_t n,
@@ -113,6 +120,27 @@ uint32_t pairing_digest_bytes(uint32_t w, uint32_t b, uint32_t n,
                               const uint8_t *message, size_t message_bytes,
                               const uint32_t *key, size_t key_words,
                               uint32_t *out, size_t out_words);
+
+/*
+ * The code of the message under the key, to be read aloud: the last d decimal digits
+ * of its one-word digest with all w bits kept, leading zeros included. It is packed
+ * two digits to a byte, the higher digit in the upper half; an odd d has a zero digit
+ * before it. The key has one word more than the message.
+ *
+ * Answers PAIRING_ACCEPTED with the code in the first (d + 1) / 2 bytes of out, the
+ * quotient rounded down, bytes beyond keeping what they held; or PAIRING_WIDTH,
+ * PAIRING_DIGITS, or one of PAIRING_LONG to PAIRING_WORD. Message and key are only
+ * read.
+ *
+ * Two different messages of t words have one code under at most
+ * (2 * F + 1) * 2^(w * t + 1) of the keys of t + 1 words, where F is (2^w - 1) / 10^d
+ * rounded down: this is proved.
+ */
+PAIRING_USE_ANSWER
+uint32_t pairing_digest_code(uint32_t w, uint32_t d,
+                             const uint32_t *message, size_t message_words,
+                             const uint32_t *key, size_t key_words,
+                             uint8_t *out, size_t out_bytes);
 
 /*
  * Fills the whole of out with key words of w bits, each the low bits of the next

@@ -183,6 +183,116 @@ static int bytes_refused(void)
     return all_refused(calls, WORDS(calls), NULL, bytes);
 }
 
+/* The digest is 255, and bytes beyond the code keep what they held. */
+static int code_accepted(void)
+{
+    const uint32_t largest[] = {255, 255};
+    uint8_t out[] = {1, 2, 3};
+    const uint8_t due[] = {0x55, 2, 3};
+    uint32_t answer = pairing_digest_code(8, 2, largest, 1, largest, 2, out, WORDS(out));
+    return answer == PAIRING_ACCEPTED && memcmp(out, due, sizeof due) == 0;
+}
+
+/* Under the key 123456789 0 the digest of the message 1 is that number. */
+static int code_of_every_size(void)
+{
+    const uint32_t one = 1, number[] = {123456789, 0};
+    static const uint8_t due[PAIRING_MOST_CODE_DIGITS][PAIRING_MOST_CODE_BYTES + 1] = {
+        {0x09, 9, 9, 9, 9, 9},
+        {0x89, 9, 9, 9, 9, 9},
+        {0x07, 0x89, 9, 9, 9, 9},
+        {0x67, 0x89, 9, 9, 9, 9},
+        {0x05, 0x67, 0x89, 9, 9, 9},
+        {0x45, 0x67, 0x89, 9, 9, 9},
+        {0x03, 0x45, 0x67, 0x89, 9, 9},
+        {0x23, 0x45, 0x67, 0x89, 9, 9},
+        {0x01, 0x23, 0x45, 0x67, 0x89, 9},
+    };
+    uint32_t d;
+    for (d = 1; d <= PAIRING_MOST_CODE_DIGITS; d++) {
+        uint8_t out[PAIRING_MOST_CODE_BYTES + 1];
+        memset(out, 9, sizeof out);
+        if (pairing_digest_code(32, d, &one, 1, number, 2, out, (d + 1) / 2) != PAIRING_ACCEPTED ||
+            memcmp(out, due[d - 1], sizeof out) != 0)
+            return 0;
+    }
+    return 1;
+}
+
+/* At each width a code has as many digits as 10^d is not above 2^w, and at least one. */
+static int code_digits(void)
+{
+    static const uint32_t far_too_many[] = {11, 64, 256, 0x80000000u, 0xffffffffu};
+    const uint32_t zeros[] = {0, 0};
+    uint32_t w, d;
+    size_t i;
+    for (w = 1; w <= 32; w++) {
+        uint64_t power = 1;
+        for (d = 0; d <= 10; d++, power *= 10) {
+            int passes = d > 0 && power <= (uint64_t)1 << w;
+            uint8_t out[] = {9, 9, 9, 9, 9, 9};
+            uint32_t answer = pairing_digest_code(w, d, zeros, 1, zeros, 2, out, WORDS(out));
+            if (answer != (uint32_t)(passes ? PAIRING_ACCEPTED : PAIRING_DIGITS) || out[0] != (passes ? 0 : 9) ||
+                out[5] != 9)
+                return 0;
+        }
+        for (i = 0; i < WORDS(far_too_many); i++) {
+            uint8_t out = 9;
+            if (pairing_digest_code(w, far_too_many[i], zeros, 1, zeros, 2, &out, 1) != PAIRING_DIGITS || out != 9)
+                return 0;
+        }
+    }
+    return 1;
+}
+
+/* The last word alone is 1, and so is the key word under it. */
+static int code_at_the_most_words(void)
+{
+    static uint32_t words[PAIRING_MOST_WORDS + 1], keys[PAIRING_MOST_WORDS + 2];
+    uint8_t out[] = {9, 9};
+    words[PAIRING_MOST_WORDS - 1] = keys[PAIRING_MOST_WORDS - 1] = 1;
+    return pairing_digest_code(32, 2, words, PAIRING_MOST_WORDS + 1, keys, PAIRING_MOST_WORDS + 2, out, 2) ==
+               PAIRING_LONG &&
+           out[0] == 9 &&
+           pairing_digest_code(32, 2, words, PAIRING_MOST_WORDS, keys, PAIRING_MOST_WORDS + 1, out, 2) ==
+               PAIRING_ACCEPTED &&
+           out[0] == 1 && out[1] == 9;
+}
+
+static int code_refused(void)
+{
+    static const uint32_t words[PAIRING_MOST_WORDS + 1] = {3, 7, 9, 600}, keys[] = {10, 20, 100, 256, 1};
+    static const struct {
+        uint32_t due, w, d;
+        size_t message_words, key_words, out_bytes;
+    } calls[] = {
+        {PAIRING_WIDTH, 0, 0, 2, 3, 2},
+        {PAIRING_WIDTH, 33, 2, 2, 3, 2},
+        {PAIRING_DIGITS, 8, 0, 2, 3, 2},
+        {PAIRING_DIGITS, 8, 3, 2, 3, 2},
+        {PAIRING_DIGITS, 3, 1, 2, 3, 2},
+        /* before all else but the width */
+        {PAIRING_DIGITS, 8, UINT32_MAX, PAIRING_MOST_WORDS + 1, 0, 0},
+        {PAIRING_LONG, 8, 2, PAIRING_MOST_WORDS + 1, 0, 0},
+        {PAIRING_KEY, 8, 2, 2, 2, 0},
+        {PAIRING_KEY, 8, 2, 2, 4, 2},
+        {PAIRING_TRAY, 8, 2, 3, 4, 0},
+        {PAIRING_TRAY, 32, 3, 2, 3, 1},
+        /* only the message's last word, then only the key's */
+        {PAIRING_WORD, 9, 2, 4, 5, 2},
+        {PAIRING_WORD, 8, 2, 3, 4, 2},
+    };
+    size_t i;
+    for (i = 0; i < WORDS(calls); i++) {
+        uint8_t out[] = {11, 12};
+        uint32_t answer = pairing_digest_code(calls[i].w, calls[i].d, words, calls[i].message_words, keys,
+                                              calls[i].key_words, out, calls[i].out_bytes);
+        if (answer != calls[i].due || out[0] != 11 || out[1] != 12)
+            return 0;
+    }
+    return 1;
+}
+
 /* The C++ standard fixes output 10,000 of seed 5489. */
 static int stretched(void)
 {
@@ -262,6 +372,18 @@ static int null_bytes(void)
     return pairing_digest_bytes(24, 8, 1, NULL, 0, NULL, 0, NULL, 0) == PAIRING_WIDTH;
 }
 
+static int null_code(void)
+{
+    const uint32_t seven = 7;
+    uint8_t out[] = {9, 9};
+    return pairing_digest_code(8, 2, NULL, 0, &seven, 1, out, WORDS(out)) == PAIRING_ACCEPTED && out[0] == 0 &&
+           out[1] == 9 && pairing_digest_code(8, 2, NULL, 0, NULL, 0, out, WORDS(out)) == PAIRING_KEY &&
+           pairing_digest_code(8, 2, message, WORDS(message), NULL, 0, out, WORDS(out)) == PAIRING_KEY &&
+           pairing_digest_code(8, 2, NULL, 0, &seven, 1, NULL, 0) == PAIRING_TRAY &&
+           pairing_digest_code(8, 0, NULL, 0, NULL, 0, NULL, 0) == PAIRING_DIGITS &&
+           pairing_digest_code(0, 0, NULL, 0, NULL, 0, NULL, 0) == PAIRING_WIDTH;
+}
+
 static int version(void)
 {
     char text[32];
@@ -285,6 +407,11 @@ static const struct {
     {"bytes_accepted_without_a_message", bytes_accepted_without_a_message},
     {"bytes_at_the_most_words", bytes_at_the_most_words},
     {"bytes_refused", bytes_refused},
+    {"code_accepted", code_accepted},
+    {"code_of_every_size", code_of_every_size},
+    {"code_digits", code_digits},
+    {"code_at_the_most_words", code_at_the_most_words},
+    {"code_refused", code_refused},
     {"stretched", stretched},
     {"stretched_to_the_most_words", stretched_to_the_most_words},
     {"stretch_refused", stretch_refused},
@@ -293,6 +420,7 @@ static const struct {
     {"match_refused", match_refused},
     {"null_rows", null_rows},
     {"null_bytes", null_bytes},
+    {"null_code", null_code},
     {"version", version},
 };
 

@@ -1,35 +1,56 @@
-//! The seven-bit count by brute force, written from the formula and independent of the proved code.
+//! The seven-bit counts by brute force, written from the documents and independent of the proved code.
 //!
-//! A one-word message m under the key k1, k2 has the digest (m*k1 + floor(m*k2 / 2^7)) mod 2^7. For every
-//! pair of different messages, and every one of the 2^14 keys, count the keys that give both one digest.
+//! A one-word message m under the key k1, k2 has the digest (m*k1 + floor(m*k2 / 2^7)) mod 2^7; its code of d digits is
+//! that modulo 10^d, as packed decimal. For every pair of different messages, and every one of the 2^14 keys, count the
+//! keys that give both one digest, or one code.
 
 const WIDTH: u32 = 7;
+const WORDS: u32 = 1 << WIDTH;
 
 fn digest(m: u32, k1: u32, k2: u32) -> u32 {
-    (m * k1 + m * k2 / (1 << WIDTH)) % (1 << WIDTH)
+    (m * k1 + m * k2 / WORDS) % WORDS
 }
 
-fn agreeing_keys(a: u32, b: u32) -> u32 {
-    let mut count = 0;
-    for k1 in 0..1 << WIDTH {
-        for k2 in 0..1 << WIDTH {
-            if digest(a, k1, k2) == digest(b, k1, k2) {
-                count += 1;
-            }
-        }
+/// What the two ends compare: the digest where d is 0, else the bytes of the code of d digits, as one number.
+fn compared(digest: u32, d: u32) -> u32 {
+    if d == 0 {
+        return digest;
     }
-    count
+    // Two digits a byte, leading zeros, one more zero before an odd d: decimal digits that are read as hexadecimal.
+    let digits = (d + d % 2) as usize;
+    let number = format!("{:0digits$}", digest % 10u32.pow(d));
+    u32::from_str_radix(&number, 16).unwrap()
 }
 
-fn report() -> String {
-    let words = 1u32 << WIDTH;
+/// What the message gives under each key.
+fn under_all_keys(m: u32, d: u32) -> Vec<u32> {
+    (0..WORDS * WORDS)
+        .map(|key| compared(digest(m, key / WORDS, key % WORDS), d))
+        .collect()
+}
+
+fn agreeing_keys(a: &[u32], b: &[u32]) -> usize {
+    a.iter().zip(b).filter(|(x, y)| x == y).count()
+}
+
+fn bound(d: u32) -> u32 {
+    if d == 0 {
+        // 2^(w*t + n + n*(w - b)) at t = 1, n = 1, b = w.
+        return 1 << (WIDTH + 1);
+    }
+    // (2F + 1)*2^(w*t + 1) at t = 1, F = (2^w - 1) div 10^d.
+    (2 * ((WORDS - 1) / 10u32.pow(d)) + 1) << (WIDTH + 1)
+}
+
+fn report(d: u32) -> String {
+    let values: Vec<_> = (0..WORDS).map(|m| under_all_keys(m, d)).collect();
     let mut pairs = 0;
     let mut largest = 0;
     let mut first = (0, 0);
     let mut reached = 0;
-    for a in 0..words {
-        for b in a + 1..words {
-            let count = agreeing_keys(a, b);
+    for a in 0..values.len() {
+        for b in a + 1..values.len() {
+            let count = agreeing_keys(&values[a], &values[b]);
             pairs += 1;
             if count > largest {
                 largest = count;
@@ -41,21 +62,27 @@ fn report() -> String {
             }
         }
     }
-    let keys = words * words;
-    // 2^(w*t + n + n*(w - b)) at t = 1, n = 1, b = w.
-    let bound = 1u32 << (WIDTH + 1);
+    let compared = match d {
+        0 => format!("kept {WIDTH}, one digest word"),
+        1 => "code of 1 digit".to_string(),
+        _ => format!("code of {d} digits"),
+    };
     format!(
-        "width {WIDTH}, kept {WIDTH}, one digest word, one-word messages: \
-         {pairs} pairs of different messages, {keys} keys\n\
+        "width {WIDTH}, {compared}, one-word messages: \
+         {pairs} pairs of different messages, {} keys\n\
          largest count of keys under which a pair agrees: {largest}\n\
          first pair that reaches it: {} and {}\n\
          pairs that reach it: {reached}\n\
-         bound: {bound}\n",
-        first.0, first.1
+         bound: {}\n",
+        WORDS * WORDS,
+        first.0,
+        first.1,
+        bound(d)
     )
 }
 
 #[test]
 fn the_program_writes_what_brute_force_finds() {
-    assert_eq!(include_str!("../crates/count_pairs/stdout"), report());
+    let lines: String = (0..=2).map(report).collect();
+    assert_eq!(include_str!("../crates/count_pairs/stdout"), lines);
 }

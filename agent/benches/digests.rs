@@ -1,5 +1,5 @@
-//! The proved word digest beside Rust loops, and the proved byte digest beside the word digest of
-//! the same words, the closing byte among them, each on one input in one run.
+//! The proved word digest beside Rust loops, and the proved byte digest and code beside the word
+//! digest of the same words, those of bytes with the closing one, each on one input in one run.
 //!
 //! (a) is a plain indexed loop that tests its words. (b) is bare sums, which test nothing: the
 //! faster of two loops that the compiler turns into vector code. All sides walk the message once
@@ -7,7 +7,7 @@
 
 #![forbid(unsafe_code)]
 
-use pairing_agent::Settings;
+use pairing_agent::{code_bytes, Settings};
 use std::hint::black_box;
 use std::time::{Duration, Instant};
 
@@ -44,6 +44,13 @@ fn main() {
     for row in &rows {
         row.print_ratio();
     }
+
+    println!("\nThe code at width 32, {DIGITS} digits, and the digest of the same words at n 1.\n");
+    let rows = [WORDS, 1].map(CodeRow::measure);
+    println!("  words        code      digest    code / digest");
+    for row in &rows {
+        row.print();
+    }
 }
 
 /// How long the calls of one side took.
@@ -52,14 +59,15 @@ struct Times {
     median: Duration,
 }
 
-/// Runs every side once a round.
+/// Runs every side once a round. Each round begins with another side: the same code was measured a
+/// few in a hundred slower as the first of two than as the second.
 fn race<const SIDES: usize>(mut sides: [Box<dyn FnMut() + '_>; SIDES]) -> [Times; SIDES] {
     let mut times = [(); SIDES].map(|()| Vec::with_capacity(ROUNDS));
-    for _ in 0..ROUNDS {
-        for (side, times) in sides.iter_mut().zip(&mut times) {
+    for round in 0..ROUNDS {
+        for side in (0..SIDES).map(|place| (round + place) % SIDES) {
             let start = Instant::now();
-            side();
-            times.push(start.elapsed());
+            sides[side]();
+            times[side].push(start.elapsed());
         }
     }
     times.map(|mut times| {
@@ -80,10 +88,17 @@ fn print_times(w: u32, n: usize, times: &[Times]) {
     println!("    {rate:15.0}");
 }
 
-fn print_ratio(w: u32, n: usize, names: &str, of: [&Times; 2], goal: Option<f64>) {
+/// The ratios of the fastest calls and of the medians.
+fn ratios(of: [&Times; 2]) -> [f64; 2] {
     let ratio = |of: [Duration; 2]| of[0].as_secs_f64() / of[1].as_secs_f64();
-    let fastest = ratio(of.map(|times| times.fastest));
-    let median = ratio(of.map(|times| times.median));
+    [
+        ratio(of.map(|times| times.fastest)),
+        ratio(of.map(|times| times.median)),
+    ]
+}
+
+fn print_ratio(w: u32, n: usize, names: &str, of: [&Times; 2], goal: Option<f64>) {
+    let [fastest, median] = ratios(of);
     print!("w {w:2}, n {n}: {names:20} {fastest:.2} ({median:.2})");
     match goal {
         Some(goal) if fastest <= goal => println!("  goal {goal:?}: met"),
@@ -303,6 +318,53 @@ impl BytesRow {
             _ => None,
         };
         print_ratio(self.w, self.n, "bytes / words", of, goal);
+    }
+}
+
+/// The digits of the codes that are measured, as the command line has them by itself.
+const DIGITS: u32 = 6;
+
+/// The code and then the word digest of the same words.
+struct CodeRow {
+    words: usize,
+    times: [Times; 2],
+}
+
+impl CodeRow {
+    /// A turn makes as many calls as have `WORDS` words together: one call of one word is too short
+    /// for the clock.
+    fn measure(words: usize) -> CodeRow {
+        let (message, key) = input(32, 1);
+        let (message, key) = (&message[..words], &key[..=words]);
+        let (mut code, mut digest) = ([0; code_bytes(DIGITS)], [0]);
+        let times = race([
+            Box::new(|| {
+                for _ in 0..WORDS / words {
+                    pairing_agent::digest_code(32, DIGITS, message, key, black_box(&mut code))
+                        .expect("the input is fit");
+                }
+            }),
+            Box::new(|| {
+                for _ in 0..WORDS / words {
+                    library(32, message, key, black_box(&mut digest));
+                }
+            }),
+        ]);
+        let digits = code.map(|byte| format!("{byte:02x}")).concat();
+        let due = digest[0] % 10u32.pow(DIGITS);
+        assert_eq!(digits.parse(), Ok(due), "the code is another's");
+        CodeRow { words, times }
+    }
+
+    fn print(&self) {
+        let [code, digest] = &self.times;
+        let calls = (WORDS / self.words) as f64;
+        print!("{:7}", self.words);
+        for times in [code, digest] {
+            print!("  {:7.3} us", times.fastest.as_secs_f64() * 1e6 / calls);
+        }
+        let [fastest, median] = ratios([code, digest]);
+        println!("      {fastest:.2} ({median:.2})");
     }
 }
 

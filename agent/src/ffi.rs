@@ -34,6 +34,17 @@ mod entry {
             out_words: usize,
         ) -> u32;
 
+        pub fn pairing_digest_code(
+            w: u32,
+            d: u32,
+            message: *const u32,
+            message_words: usize,
+            key: *const u32,
+            key_words: usize,
+            out: *mut u8,
+            out_bytes: usize,
+        ) -> u32;
+
         pub fn pairing_stretch(w: u32, seed: u32, out: *mut u32, out_words: usize) -> u32;
 
         pub fn pairing_match(
@@ -93,6 +104,24 @@ pub fn digest_words(settings: Settings, message: &[u32], key: &[u32], out: &mut 
 #[must_use]
 pub fn digest_bytes(settings: Settings, message: &[u8], key: &[u32], out: &mut [u32]) -> u32 {
     digest(entry::pairing_digest_bytes, settings, message, key, out)
+}
+
+/// The number that `pairing_digest_code` answers: 0 with the code in `out`, or a refusal's.
+#[must_use]
+pub fn digest_code(width: u32, digits: u32, message: &[u32], key: &[u32], out: &mut [u8]) -> u32 {
+    // SAFETY: each pointer and length is one slice's; `out` is borrowed apart from the others.
+    unsafe {
+        entry::pairing_digest_code(
+            width,
+            digits,
+            message.as_ptr(),
+            message.len(),
+            key.as_ptr(),
+            key.len(),
+            out.as_mut_ptr(),
+            out.len(),
+        )
+    }
 }
 
 /// The number that `pairing_stretch` answers: 0 with the whole of `out` filled, or a refusal's.

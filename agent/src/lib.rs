@@ -20,19 +20,23 @@
 //! Every answer and every row is proved to be the one that the definitions give. So are two counts
 //! over all keys of t + n words drawn uniformly: how many make two different messages of one length
 //! agree, at most 2^(w·t + n + n·(w−b)) of 2^(w·(t+n)); and how many give a message each digest.
-//! Length is in words. Bytes are closed, so different bytes that make equally many words make
-//! different ones, which is proved too. A key that [`stretch`] makes is one of at most 2^32, and no
-//! count is proved for those.
+//! Codes of d digits have a third: two different messages of t words share one under at most
+//! (2F + 1)·2^(w·t + 1) keys of t + 1 words, where F is (2^w − 1) div 10^d. Length is in words.
+//! Bytes are closed, so different bytes that make equally many words make different ones, which is
+//! proved too. A key that [`stretch`] makes is one of at most 2^32, and no count is proved for
+//! those.
 
 #![deny(unsafe_code)]
 #![deny(missing_docs)]
 
+mod code;
 #[allow(unsafe_code)]
 #[doc(hidden)]
 pub mod ffi;
 mod refusal;
 mod settings;
 
+pub use code::{code_bytes, code_text, MOST_CODE_BYTES, MOST_CODE_DIGITS};
 pub use refusal::Refusal;
 pub use settings::Settings;
 
@@ -52,7 +56,7 @@ pub const MOST_DIGEST_WORDS: usize = 8;
 ///
 /// # Errors
 ///
-/// `Width` to `Word`, as the library's tests find; `out` then holds what it held.
+/// `Width`, or `Kept` to `Word`, as the library's tests find; `out` then holds what it held.
 pub fn digest_words(
     settings: Settings,
     message: &[u32],
@@ -84,7 +88,7 @@ pub fn digest_words(
 ///
 /// # Errors
 ///
-/// `Width` to `Word`, as the library's tests find; `out` then holds what it held.
+/// `Width`, or `Kept` to `Word`, as the library's tests find; `out` then holds what it held.
 pub fn digest_bytes(
     settings: Settings,
     message: &[u8],
@@ -92,6 +96,39 @@ pub fn digest_bytes(
     out: &mut [u32],
 ) -> Result<(), Refusal> {
     written(ffi::digest_bytes(settings, message, key, out))
+}
+
+/// Writes the code of `message` under `key`, for people to read aloud, into the first
+/// [`code_bytes`] places of `out`.
+///
+/// The code is the last `digits` decimal digits of the one-word digest with every bit kept, leading
+/// zeros included. It is packed two digits to a byte, the higher one in the upper half, with a zero
+/// digit before an odd number of them; [`code_text`] reads it. The key has one word more than the
+/// message. Places of `out` beyond the code keep what they held.
+///
+/// ```
+/// use pairing_agent::{code_text, digest_code};
+///
+/// // The digest is 255, and its last two digits are 55.
+/// let mut code = [0; 1];
+/// digest_code(8, 2, &[255], &[255, 255], &mut code)?;
+/// assert_eq!(code, [0x55]);
+/// assert_eq!(code_text(2, &code).as_deref(), Some("55"));
+/// # Ok::<(), pairing_agent::Refusal>(())
+/// ```
+///
+/// # Errors
+///
+/// `Width`, `Digits`, or `Long` to `Word`, as the library's tests find; `out` then holds what it
+/// held.
+pub fn digest_code(
+    width: u32,
+    digits: u32,
+    message: &[u32],
+    key: &[u32],
+    out: &mut [u8],
+) -> Result<(), Refusal> {
+    written(ffi::digest_code(width, digits, message, key, out))
 }
 
 /// Fills the whole of `key` with words of `width` bits, each from the next output of MT19937 made

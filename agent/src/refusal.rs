@@ -15,6 +15,8 @@ pub enum Refusal {
     State = 8,
     /// The width is not 1 to 32 bits; for bytes, not 8, 16 or 32.
     Width = 1,
+    /// The code is to have no digits, or more than the width can fill.
+    Digits = 9,
     /// No bits are kept, or more than the width has.
     Kept = 2,
     /// The digest is not to have 1 to 8 words.
@@ -31,9 +33,10 @@ pub enum Refusal {
 
 impl Refusal {
     /// Every refusal, in the order of the tests.
-    pub const ALL: [Refusal; 8] = [
+    pub const ALL: [Refusal; 9] = [
         Refusal::State,
         Refusal::Width,
+        Refusal::Digits,
         Refusal::Kept,
         Refusal::Count,
         Refusal::Long,
@@ -62,11 +65,15 @@ impl Refusal {
         match self {
             Refusal::State => {
                 "The state of a stream or generator holds a number outside its range, or something \
-                 in a place not in use. Digest, match and stretch take no state and never answer \
-                 this."
+                 in a place not in use. Digest, code, match and stretch take no state and never \
+                 answer this."
             }
             Refusal::Width => {
                 "The width w is 0 or more than 32; for bytes, it is none of 8, 16 and 32."
+            }
+            Refusal::Digits => {
+                "The code's digits d are 0, or 10^d is more than 2^w. Widths 30 to 32 take up to \
+                 9 digits, widths 1 to 3 none."
             }
             Refusal::Kept => "The kept bits b are 0, or more than the width w.",
             Refusal::Count => "The digest words n are 0, or more than 8.",
@@ -76,8 +83,8 @@ impl Refusal {
             }
             Refusal::Key => {
                 "The key does not have exactly n words more than the message, for bytes counted \
-                 with the closing byte 0x80. In a stream: the opening key does not have n words, \
-                 or a push has more words of one kind than of the other."
+                 with the closing byte 0x80, or for a code one word more. In a stream: the opening \
+                 key does not have n words, or a push has more words of one kind than of the other."
             }
             Refusal::Tray => {
                 "The output has fewer places than the call writes. In a match: a row does not have \
@@ -94,6 +101,10 @@ impl fmt::Display for Refusal {
             Refusal::Width => {
                 "wrong width: set words of 1 to 32 bits, or of 8, 16 or 32 bits to digest bytes"
             }
+            Refusal::Digits => {
+                "wrong code size: ask for 1 to 9 digits, fewer at a width below 30, or set a \
+                 larger width"
+            }
             Refusal::Kept => "wrong kept bits: keep at least 1 bit and no more than the width",
             Refusal::Count => "wrong digest size: ask for 1 to 8 digest words",
             Refusal::Long => "too long: shorten the message, or stretch into a shorter row",
@@ -102,8 +113,8 @@ impl fmt::Display for Refusal {
                  check the word count and pair again"
             }
             Refusal::Tray => {
-                "wrong lengths: lend an output with room for the whole digest, and match rows of \
-                 exactly its size; check the word count and pair again"
+                "wrong lengths: lend an output with room for the whole digest or code, and match \
+                 rows of exactly the digest's size; check the word count and pair again"
             }
             Refusal::Word => {
                 "word too large: both ends must use one width; check it and pair again"
@@ -123,11 +134,11 @@ mod tests {
     fn numbers_and_refusals_go_together() {
         let mut numbers = Refusal::ALL.map(Refusal::number);
         numbers.sort_unstable();
-        assert_eq!(numbers, [1, 2, 3, 4, 5, 6, 7, 8]);
+        assert_eq!(numbers, [1, 2, 3, 4, 5, 6, 7, 8, 9]);
         for refusal in Refusal::ALL {
             assert_eq!(Refusal::from_number(refusal.number()), Some(refusal));
         }
-        for number in [0, 9, 10, 99, 100, 101, 256 + 1, u32::MAX] {
+        for number in [0, 10, 11, 99, 100, 101, 256 + 1, u32::MAX] {
             assert_eq!(Refusal::from_number(number), None);
         }
     }

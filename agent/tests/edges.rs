@@ -6,6 +6,7 @@
 mod common;
 
 use common::calls::{settings, Call, Digest, Match};
+use common::faults::Faults;
 use common::paper::WIDTHS_OF_BYTES;
 use common::part::Part;
 use common::random::Random;
@@ -330,42 +331,24 @@ impl Faulty for u8 {
     }
 }
 
-/// Which faults a call has, fault 1 in bit 0, and in which of two forms.
-#[derive(Clone, Copy)]
-struct Faults {
-    has: u32,
-    other_form: u32,
-}
-
-impl Faults {
-    fn pick<T>(self, fault: u32, fit: T, unfit: T, otherwise_unfit: T) -> T {
-        let set = |bits: u32| bits >> (fault - 1) & 1 == 1;
-        match (set(self.has), set(self.other_form)) {
-            (false, _) => fit,
-            (true, false) => unfit,
-            (true, true) => otherwise_unfit,
-        }
-    }
-}
-
-/// A call at that width but for its faults.
+/// A call at that width but for its faults, 0 to 6.
 fn faulty<P: Faulty>(width: u32, faults: Faults) -> Digest<P> {
-    let w = faults.pick(1, width, P::unfit_width(width), 0);
-    let b = faults.pick(2, width, 0, width + 26);
+    let w = faults.pick(0, width, P::unfit_width(width), 0);
+    let b = faults.pick(1, width, 0, width + 26);
     // A count of 0 has no tray that is too small, so the other form leaves that fault out.
-    let n = faults.pick(3, 3, 9, 0);
+    let n = faults.pick(2, 3, 9, 0);
     let many = 65_600 * P::parts_in_a_word(width);
-    let parts = faults.pick(4, 5, P::most(width) + 1, many);
+    let parts = faults.pick(3, 5, P::most(width) + 1, many);
     let due = P::words_made(width, parts) + n;
-    let words = faults.pick(5, due, due - 1, due + 1);
-    let places = faults.pick(6, n, n.saturating_sub(1), 0);
+    let words = faults.pick(4, due, due - 1, due + 1);
+    let places = faults.pick(5, n, n.saturating_sub(1), 0);
     let mut call = Digest {
         settings: settings(w, b, n as u32),
         message: vec![P::largest(width); parts],
         key: vec![1; words],
         out: vec![0xdead_beef; places],
     };
-    let [early, last] = faults.pick(7, [false; 2], [true, false], [false, true]);
+    let [early, last] = faults.pick(6, [false; 2], [true, false], [false, true]);
     if early {
         *P::early_word(&mut call) = 1 << width;
     }
@@ -379,18 +362,11 @@ fn faulty<P: Faulty>(width: u32, faults: Faults) -> Digest<P> {
 fn order_of_the_tests<P: Faulty>() {
     let mut seen = [0; 8];
     for width in [8, 16] {
-        for has in 0..128u32 {
-            for other_form in (0..128).filter(|forms| forms & !has == 0) {
-                let call = faulty::<P>(width, Faults { has, other_form });
-                let due = match has {
-                    0 => 0,
-                    _ => has.trailing_zeros() + 1,
-                };
-                let number = answer(&call);
-                let faults = format!("{has:07b} in forms {other_form:07b}");
-                assert_eq!(number, due, "width {width}, faults {faults}");
-                seen[number as usize] += 1;
-            }
+        for faults in Faults::every_set(7) {
+            let due = faults.first().map_or(0, |fault| fault + 1);
+            let number = answer(&faulty::<P>(width, faults));
+            assert_eq!(number, due, "width {width}, {faults:?}");
+            seen[number as usize] += 1;
         }
     }
     let entry = P::ENTRY;
@@ -400,9 +376,8 @@ fn order_of_the_tests<P: Faulty>() {
 fn results_name_the_refusals<P: Faulty>() {
     use Refusal::{Count, Kept, Key, Long, Tray, Width, Word};
     let refusals = [Width, Kept, Count, Long, Key, Tray, Word];
-    for (bit, refusal) in refusals.into_iter().enumerate() {
-        let (has, other_form) = (1 << bit, 0);
-        let call = faulty::<P>(8, Faults { has, other_form });
+    for (fault, refusal) in (0..).zip(refusals) {
+        let call = faulty::<P>(8, Faults::only(fault));
         let mut out = call.out.clone();
         let result = P::RESULT(call.settings, &call.message, &call.key, &mut out);
         assert_eq!((result, out), (Err(refusal), call.out));

@@ -3,7 +3,8 @@
 
 #![forbid(unsafe_code)]
 
-use pairing_agent::{Refusal, MOST_DIGEST_WORDS, MOST_KEY_WORDS, MOST_MESSAGE_WORDS};
+use pairing_agent::{Refusal, MOST_CODE_BYTES, MOST_CODE_DIGITS};
+use pairing_agent::{MOST_DIGEST_WORDS, MOST_KEY_WORDS, MOST_MESSAGE_WORDS};
 use std::collections::BTreeMap;
 use std::process::Command;
 
@@ -133,6 +134,11 @@ fn every_limit_is_the_same() {
     let digest = number_after(HEADER, "#define PAIRING_MOST_DIGEST_WORDS");
     assert_eq!(MOST_DIGEST_WORDS, digest);
     assert_eq!(key, message + digest);
+    let digits = number_after(HEADER, "#define PAIRING_MOST_CODE_DIGITS");
+    assert_eq!(MOST_CODE_DIGITS as usize, digits);
+    let bytes = number_after(HEADER, "#define PAIRING_MOST_CODE_BYTES");
+    assert_eq!(MOST_CODE_BYTES, bytes);
+    assert_eq!(digits.div_ceil(2), bytes);
 }
 
 #[test]

@@ -51,6 +51,13 @@ fn digest_bytes() {
 }
 
 #[test]
+fn digest_code() {
+    tally(20_250_305, &[0, 1, 4, 5, 6, 7, 9], |random| {
+        cases::code(random, RARE)
+    });
+}
+
+#[test]
 fn stretch() {
     tally(20_250_304, &[0, 1, 4], |random| {
         cases::stretch(random, RARE)

@@ -1,5 +1,5 @@
 //! Ten million random calls through the C interface against independent implementations: for
-//! bytes and the stretch, others than those that the other tests compare with.
+//! bytes, codes and the stretch, others than those that the other tests compare with.
 //!
 //! Not part of the gate: `make soak` runs it. It stops after ten minutes and says how far it came.
 //! PAIRING_SOAK_CALLS and PAIRING_SOAK_SEED set other numbers.
@@ -8,7 +8,7 @@
 
 mod common;
 
-use common::calls::{Call, Digest, Stretch};
+use common::calls::{settings, Call, Code, Digest, Stretch};
 use common::paper::{self, Outcome};
 use common::random::Random;
 use common::{cases, from_environment};
@@ -65,7 +65,7 @@ struct Tally {
 
 impl Tally {
     fn make_a_call(&mut self, random: &mut Random) {
-        match random.below(10) {
+        match random.below(12) {
             0..=3 => {
                 let call = cases::digest::<u32>(random, RARE);
                 self.make(&call, &call.due(), random);
@@ -74,7 +74,11 @@ impl Tally {
                 let call = cases::digest::<u8>(random, RARE);
                 self.make(&call, &bytes_due(&call), random);
             }
-            7 => {
+            7..=8 => {
+                let call = cases::code(random, RARE);
+                self.make(&call, &code_due(&call), random);
+            }
+            9 => {
                 let call = cases::stretch(random, RARE);
                 self.make(&call, &stretch_due(&call), random);
             }
@@ -85,7 +89,7 @@ impl Tally {
         }
     }
 
-    fn make<C: Call>(&mut self, call: &C, due: &Outcome, random: &mut Random) {
+    fn make<C: Call>(&mut self, call: &C, due: &Outcome<C::Place>, random: &mut Random) {
         let made = call.make(due, random);
         *self.seen.entry((C::ENTRY, made.answer)).or_insert(0) += 1;
         if !made.wrong.is_empty() {
@@ -119,6 +123,34 @@ fn bytes_due(call: &Digest<u8>) -> Outcome {
     let last = word(left) + 0x80 * 256u32.pow(left.len() as u32);
     let words: Vec<u32> = full.map(word).chain([last]).collect();
     paper::digest_words(call.settings, &words, &call.key, &call.out)
+}
+
+/// What the code must leave: the digits of the word digest, each found by a division of its own.
+fn code_due(call: &Code) -> Outcome<u8> {
+    let Code { width, digits, .. } = *call;
+    if !(1..=32).contains(&width) {
+        return refused(1, &call.out);
+    }
+    let power = |exponent: u32| 10u64.checked_pow(exponent);
+    if digits == 0 || power(digits).map_or(true, |power| power > 2u64.pow(width)) {
+        return refused(9, &call.out);
+    }
+    let bytes = digits.div_ceil(2) as usize;
+    let settings = settings(width, width, 1);
+    let places = &[0][..usize::from(call.out.len() >= bytes)];
+    let digest = paper::digest_words(settings, &call.message, &call.key, places);
+    if digest.answer != 0 {
+        return refused(digest.answer, &call.out);
+    }
+    let number = u64::from(digest.out[0]);
+    let mut out = call.out.clone();
+    out[..bytes].fill(0);
+    for place in 0..digits {
+        let digit = (number / 10u64.pow(place) % 10) as u8;
+        // From the end: even places are lower halves.
+        out[bytes - 1 - place as usize / 2] += digit * [1, 16][place as usize % 2];
+    }
+    Outcome { answer: 0, out }
 }
 
 /// What the stretch must leave. The generator here is the recurrence over one growing sequence,
@@ -155,7 +187,7 @@ fn stretch_due(call: &Stretch) -> Outcome {
     }
 }
 
-fn refused(answer: u32, out: &[u32]) -> Outcome {
+fn refused<P: Clone>(answer: u32, out: &[P]) -> Outcome<P> {
     Outcome {
         answer,
         out: out.to_vec(),

@@ -16,7 +16,9 @@ fn files_that_cannot_be_read_or_written() {
         for args in [
             &["digest", "--seed", "1", file][..],
             &["digest-words", "--seed", "1", file],
+            &["code", "--seed", "1", file],
             &["digest", "--key", file, "-"],
+            &["code", "--key", file, "-"],
             &["digest", "--seed", &at_file, "-"],
             &["stretch", "--seed", &at_file, "1"],
             &["match", "--words", "1", "0x1", &at_file],
@@ -88,6 +90,7 @@ fn a_bad_number_is_told_with_its_line() {
         let in_file = format!("pairing: '{}', line {line}: {why}", file.path());
         bad_content(&in_file, &["digest", "--key", file.path(), "-"], b"");
         bad_content(&in_file, &["digest-words", "--seed", "1", file.path()], b"");
+        bad_content(&in_file, &["code", "--seed", "1", file.path()], b"");
         bad_content(&in_file, &["stretch", "--seed", &file.at(), "1"], b"");
         let in_input = format!("pairing: standard input, line {line}: {why}");
         bad_content(&in_input, &WORDS, text.as_bytes());

@@ -1,9 +1,9 @@
 //! Help, and the version.
 
 use crate::run::accepted;
-use pairing_agent::{MOST_DIGEST_WORDS, MOST_KEY_WORDS};
+use pairing_agent::{MOST_CODE_DIGITS, MOST_DIGEST_WORDS, MOST_KEY_WORDS};
 
-const COMMANDS: [(&str, &[&str]); 6] = [
+const COMMANDS: [(&str, &[&str]); 7] = [
     (
         "digest",
         &["--width", "--kept", "--words", "--seed", "--key"],
@@ -12,6 +12,7 @@ const COMMANDS: [(&str, &[&str]); 6] = [
         "digest-words",
         &["--width", "--kept", "--words", "--seed", "--key"],
     ),
+    ("code", &["--width", "--digits", "--seed", "--key"]),
     ("stretch", &["--width", "--seed"]),
     ("match", &["--words"]),
     ("count", &["--width", "--svg"]),
@@ -68,6 +69,12 @@ fn help_has_the_limits_and_what_is_proved() {
     let digest = accepted(&["digest", "--help"], b"");
     let words = format!("digest words, 1 to {MOST_DIGEST_WORDS};");
     assert!(digest.contains(&words), "{digest}");
+
+    let code = accepted(&["code", "--help"], b"");
+    let digits = format!("digits of the code, 1 to {MOST_CODE_DIGITS},");
+    assert!(code.contains(&digits), "{code}");
+    let proved = "This is proved for keys drawn uniformly, and not for stretched ones.\n";
+    assert!(code.ends_with(&format!("\ndown. {proved}")), "{code}");
 
     let stretch = accepted(&["stretch", "--help"], b"");
     let count = format!("how many words, up to {MOST_KEY_WORDS}\n");

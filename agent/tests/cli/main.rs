@@ -2,6 +2,7 @@
 
 #![forbid(unsafe_code)]
 
+mod codes;
 mod count;
 mod digests;
 mod explain;

@@ -38,11 +38,12 @@ fn a_seed_stands_for_its_stretched_key() {
 }
 
 /// The commands that take a seed, with the rest of their arguments.
-fn with_seed<'a>(seed: &'a str, message: &'a str) -> [Vec<&'a str>; 3] {
+fn with_seed<'a>(seed: &'a str, message: &'a str) -> [Vec<&'a str>; 4] {
     [
         vec!["stretch", "--seed", seed, "3"],
         vec!["digest", "--seed", seed, message],
         vec!["digest-words", "--seed", seed, message],
+        vec!["code", "--seed", seed, message],
     ]
 }
 
@@ -102,7 +103,7 @@ fn a_seed_is_one_number() {
 
 #[test]
 fn standard_input_is_read_once() {
-    for command in ["digest", "digest-words"] {
+    for command in ["digest", "digest-words", "code"] {
         for key in ["--seed=@-", "--key=-"] {
             let args = [command, key, "-"];
             bad_usage("only one of message, seed and key", &args, b"1");

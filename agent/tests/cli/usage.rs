@@ -36,6 +36,8 @@ fn bad_numbers() {
             }
             bad_usage(&shown, &args, b"1");
         }
+        let digits = format!("--digits={number}");
+        bad_usage(&shown, &["code", &digits, "--seed", "1", "-"], b"1");
         bad_usage(&shown, &["stretch", "--seed", "1", "--", number], b"");
         bad_usage(&shown, &["match", "--words", number, "0x1", "0x1"], b"");
         bad_usage(&shown, &["count", "--width", number], b"");
@@ -61,6 +63,7 @@ fn bad_commands() {
         ("words", "digest-words"),
         ("digest_words", "digest-words"),
         ("Match", "match"),
+        ("CODE", "code"),
         ("dig", "digest"),
     ] {
         let why = format!("{name} is no command, but {command} is;");
@@ -88,6 +91,14 @@ fn bad_arguments() {
             "only one of --seed and --key",
             "digest-words --seed @f --key f -",
         ),
+        ("--kept is no option", "code --kept 8 --seed 1 -"),
+        ("--words is no option", "code --words 1 --seed 1 -"),
+        (
+            "--digits is no option",
+            "digest-words --digits 6 --seed 1 -",
+        ),
+        ("--seed or --key is missing", "code -"),
+        ("FILE is missing", "code --seed 1"),
         ("--seed is missing", "stretch 4"),
         ("COUNT is missing", "stretch --seed 1"),
         ("--words is missing", "match 0x1 0x1"),
@@ -116,6 +127,7 @@ fn wrong_usage_says_where_the_help_is() {
         ("pairing", &["help", "hash"]),
         ("pairing digest", &["digest"]),
         ("pairing digest-words", &["digest-words", "--width", "x"]),
+        ("pairing code", &["code", "--digits", "x"]),
         ("pairing stretch", &["stretch", "--seed", "1"]),
         ("pairing match", &["match", "--words=1", "172", "0x1"]),
     ] {

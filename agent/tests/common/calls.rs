@@ -13,20 +13,23 @@ pub trait Call: Debug {
     /// The entry's name.
     const ENTRY: &'static str;
 
+    /// What the output is made of.
+    type Place: Debug;
+
     /// What the call must answer and leave, by the implementations beside this file.
-    fn due(&self) -> Outcome;
+    fn due(&self) -> Outcome<Self::Place>;
 
     /// Makes the call as a number, on rows between guards.
-    fn number(&self, due: &Outcome, random: &mut Random) -> Made;
+    fn number(&self, due: &Outcome<Self::Place>, random: &mut Random) -> Made;
 
     /// Makes the call as a result, on rows of their own allocations, whose ends valgrind sees.
-    fn result(&self, due: &Outcome) -> Made;
+    fn result(&self, due: &Outcome<Self::Place>) -> Made;
 
     /// The call's numbers, and how long its rows are.
     fn sizes(&self) -> String;
 
     /// Makes the call twice and compares its answers and every row with what is due.
-    fn make(&self, due: &Outcome, random: &mut Random) -> Made {
+    fn make(&self, due: &Outcome<Self::Place>, random: &mut Random) -> Made {
         let mut made = self.number(due, random);
         // The safe call panics at a number that is no answer.
         if made.answer == due.answer {
@@ -38,7 +41,7 @@ pub trait Call: Debug {
     }
 
     /// What was wrong, and the start of what the entry was called with.
-    fn report(&self, made: &Made, due: &Outcome) -> String {
+    fn report(&self, made: &Made, due: &Outcome<Self::Place>) -> String {
         let text = format!(
             "{}: wrong {}, with {}; answer {}, due {due:x?}, {self:x?}",
             Self::ENTRY,
@@ -66,7 +69,7 @@ pub struct Made {
 
 impl Made {
     /// `rows` says of each row whether it is as it must be.
-    fn new(answer: u32, due: &Outcome, rows: &[(&str, bool)]) -> Made {
+    fn new<P>(answer: u32, due: &Outcome<P>, rows: &[(&str, bool)]) -> Made {
         let answered = [("answer", answer == due.answer)];
         let wrong = answered.iter().chain(rows).filter(|(_, right)| !right);
         Made {
@@ -83,6 +86,59 @@ fn number_of(result: Result<(), Refusal>) -> u32 {
 
 fn boxed<P: Place>(row: &[P]) -> Box<[P]> {
     row.into()
+}
+
+/// The rows of a call that digests a message.
+struct Rows<'a, M, O> {
+    message: &'a [M],
+    key: &'a [u32],
+    out: &'a [O],
+}
+
+impl<M: Place, O: Place> Rows<'_, M, O> {
+    fn number(
+        &self,
+        due: &Outcome<O>,
+        random: &mut Random,
+        call: impl FnOnce(&[M], &[u32], &mut [O]) -> u32,
+    ) -> Made {
+        let message = Lent::new(self.message, random);
+        let key = Lent::new(self.key, random);
+        let mut out = Lent::new(self.out, random);
+        let answer = call(message.row(), key.row(), out.row_mut());
+        let rows = [
+            ("output", out.is_now(&due.out)),
+            ("message", message.is_as_lent()),
+            ("key", key.is_as_lent()),
+        ];
+        Made::new(answer, due, &rows)
+    }
+
+    fn result(
+        &self,
+        due: &Outcome<O>,
+        call: impl FnOnce(&[M], &[u32], &mut [O]) -> Result<(), Refusal>,
+    ) -> Made {
+        let message = boxed(self.message);
+        let key = boxed(self.key);
+        let mut out = boxed(self.out);
+        let result = call(&message, &key, &mut out);
+        let rows = [
+            ("output", *out == *due.out),
+            ("message", *message == *self.message),
+            ("key", *key == *self.key),
+        ];
+        Made::new(number_of(result), due, &rows)
+    }
+
+    fn sizes(&self) -> String {
+        format!(
+            "message of {}, key of {}, output of {}",
+            self.message.len(),
+            self.key.len(),
+            self.out.len()
+        )
+    }
 }
 
 /// Width, kept bits and digest words, in the paper's order.
@@ -119,49 +175,96 @@ impl<P: Part> Digest<P> {
             out: vec![0xdead_beef; n],
         }
     }
+
+    fn rows(&self) -> Rows<'_, P, u32> {
+        Rows {
+            message: &self.message,
+            key: &self.key,
+            out: &self.out,
+        }
+    }
 }
 
 impl<P: Part> Call for Digest<P> {
     const ENTRY: &'static str = P::ENTRY;
+    type Place = u32;
 
     fn due(&self) -> Outcome {
         P::DUE(self.settings, &self.message, &self.key, &self.out)
     }
 
     fn number(&self, due: &Outcome, random: &mut Random) -> Made {
-        let message = Lent::new(&self.message, random);
-        let key = Lent::new(&self.key, random);
-        let mut out = Lent::new(&self.out, random);
-        let answer = P::NUMBER(self.settings, message.row(), key.row(), out.row_mut());
-        let rows = [
-            ("output", out.is_now(&due.out)),
-            ("message", message.is_as_lent()),
-            ("key", key.is_as_lent()),
-        ];
-        Made::new(answer, due, &rows)
+        self.rows().number(due, random, |message, key, out| {
+            P::NUMBER(self.settings, message, key, out)
+        })
     }
 
     fn result(&self, due: &Outcome) -> Made {
-        let message = boxed(&self.message);
-        let key = boxed(&self.key);
-        let mut out = boxed(&self.out);
-        let result = P::RESULT(self.settings, &message, &key, &mut out);
-        let rows = [
-            ("output", *out == due.out),
-            ("message", *message == self.message),
-            ("key", *key == self.key),
-        ];
-        Made::new(number_of(result), due, &rows)
+        self.rows().result(due, |message, key, out| {
+            P::RESULT(self.settings, message, key, out)
+        })
     }
 
     fn sizes(&self) -> String {
-        format!(
-            "{:?}, message of {}, key of {}, output of {}",
-            self.settings,
-            self.message.len(),
-            self.key.len(),
-            self.out.len()
-        )
+        format!("{:?}, {}", self.settings, self.rows().sizes())
+    }
+}
+
+/// A call of the code.
+#[derive(Clone, Debug)]
+pub struct Code {
+    pub width: u32,
+    pub digits: u32,
+    pub message: Vec<u32>,
+    pub key: Vec<u32>,
+    pub out: Vec<u8>,
+}
+
+impl Code {
+    /// A call that is accepted, of that many message words.
+    pub fn fit(width: u32, digits: u32, words: usize) -> Code {
+        let Digest { message, key, .. } = Digest::fit(settings(width, width, 1), words);
+        Code {
+            width,
+            digits,
+            message,
+            key,
+            out: vec![0xee; digits.div_ceil(2) as usize],
+        }
+    }
+
+    fn rows(&self) -> Rows<'_, u32, u8> {
+        Rows {
+            message: &self.message,
+            key: &self.key,
+            out: &self.out,
+        }
+    }
+}
+
+impl Call for Code {
+    const ENTRY: &'static str = "digest_code";
+    type Place = u8;
+
+    fn due(&self) -> Outcome<u8> {
+        paper::digest_code(self.width, self.digits, &self.message, &self.key, &self.out)
+    }
+
+    fn number(&self, due: &Outcome<u8>, random: &mut Random) -> Made {
+        self.rows().number(due, random, |message, key, out| {
+            ffi::digest_code(self.width, self.digits, message, key, out)
+        })
+    }
+
+    fn result(&self, due: &Outcome<u8>) -> Made {
+        self.rows().result(due, |message, key, out| {
+            pairing_agent::digest_code(self.width, self.digits, message, key, out)
+        })
+    }
+
+    fn sizes(&self) -> String {
+        let Code { width, digits, .. } = self;
+        format!("width {width}, {digits} digits, {}", self.rows().sizes())
     }
 }
 
@@ -175,6 +278,7 @@ pub struct Stretch {
 
 impl Call for Stretch {
     const ENTRY: &'static str = "stretch";
+    type Place = u32;
 
     fn due(&self) -> Outcome {
         mt19937::stretch(self.width, self.seed, &self.out)
@@ -210,6 +314,7 @@ pub struct Match {
 
 impl Call for Match {
     const ENTRY: &'static str = "digests_match";
+    type Place = u32;
 
     fn due(&self) -> Outcome {
         Outcome {

@@ -2,7 +2,8 @@
 //!
 //! `rare` makes long rows that many times rarer, for tests that make more calls.
 
-use super::calls::{Digest, Match, Stretch};
+use super::calls::{self, Code, Digest, Match, Stretch};
+use super::paper;
 use super::part::Part;
 use super::random::Random;
 use pairing_agent::Settings;
@@ -83,9 +84,23 @@ pub fn digest<P: Drawn>(random: &mut Random, rare: usize) -> Digest<P> {
     };
     // A count of words that can be lent, whatever the settings say.
     let n = settings.words.min(20) as usize;
+    with_rows(random, faults, rare, settings, fit_width, [n, n])
+}
+
+/// A call with those settings. But for the faults, its rows are fit at the fit width: the key is so
+/// much longer than the message, and so many places are written.
+fn with_rows<P: Drawn>(
+    random: &mut Random,
+    faults: Faults,
+    rare: usize,
+    settings: Settings,
+    fit_width: u32,
+    [longer, written]: [usize; 2],
+) -> Digest<P> {
+    let width = settings.width;
     let parts = message_length::<P>(random, faults, rare, fit_width);
     let words = P::words_made(fit_width, parts);
-    let key_words = key_length(random, faults, [words + n, parts + n]);
+    let key_words = key_length(random, faults, [words + longer, parts + longer]);
     // Often the same for both rows, so that largest words meet.
     let style = random.below(8);
     let key_style = [style, random.below(8)][random.below(2)];
@@ -94,7 +109,7 @@ pub fn digest<P: Drawn>(random: &mut Random, rare: usize) -> Digest<P> {
         settings,
         message: message.into_iter().map(P::of_bits).collect(),
         key: words_below(random, width, key_words, key_style),
-        out: output(random, faults, n),
+        out: output(random, faults, written),
     };
     for row in P::rows_of_words(&mut call) {
         if faults.once_in(3, random) {
@@ -157,6 +172,36 @@ fn output(random: &mut Random, faults: Faults, due: usize) -> Vec<u32> {
         due + random.below(12)
     };
     random.row(places)
+}
+
+/// A call of the code, at a width that has one but for the faults.
+pub fn code(random: &mut Random, rare: usize) -> Code {
+    let faults = Faults::random(random);
+    let fit_width = u32::fit_width(random).max(4);
+    let width = if faults.once_in(8, random) {
+        u32::unfit_width(random)
+    } else if faults.once_in(12, random) {
+        1 + random.below(3) as u32
+    } else {
+        fit_width
+    };
+    let most = paper::most_digits(fit_width);
+    let digits = if faults.once_in(6, random) {
+        outside(random, most + 1)
+    } else {
+        1 + random.below(most as usize) as u32
+    };
+    // As many bytes as can be lent, whatever the digits are.
+    let bytes = digits.div_ceil(2).min(20) as usize;
+    let settings = calls::settings(width, width, 1);
+    let rows = with_rows::<u32>(random, faults, rare, settings, fit_width, [1, bytes]);
+    Code {
+        width,
+        digits,
+        message: rows.message,
+        key: rows.key,
+        out: rows.out.into_iter().map(|word| word as u8).collect(),
+    }
 }
 
 /// Most rows are short; some stand around a refill, a few around the longest.

@@ -1,10 +1,11 @@
-//! What the tests share: independent implementations, random calls, and guarded rows.
+//! What the tests share: independent implementations, random calls, faults, and guarded rows.
 
 // Each test file is a program of its own and uses its own part of this.
 #![allow(dead_code)]
 
 pub mod calls;
 pub mod cases;
+pub mod faults;
 pub mod lent;
 pub mod mt19937;
 pub mod paper;

@@ -10,11 +10,11 @@ pub const MOST_WORDS: usize = 65_536;
 /// The widths at which bytes fill words.
 pub const WIDTHS_OF_BYTES: [u32; 3] = [8, 16, 32];
 
-/// What a call leaves: its answer, and the output row.
+/// What a call leaves: its answer, and the output row, of words but for a code.
 #[derive(Debug, PartialEq, Eq)]
-pub struct Outcome {
+pub struct Outcome<P = u32> {
     pub answer: u32,
-    pub out: Vec<u32>,
+    pub out: Vec<P>,
 }
 
 /// The word digest as a whole call.
@@ -41,13 +41,25 @@ fn digest_answer(settings: Settings, message: &[u32], key: &[u32], places: usize
     if n == 0 || n > 8 {
         return 3;
     }
+    rows_answer(w, message, key, [n, n], places)
+}
+
+/// The tests of the rows, 4 to 7, of a call at a fit width. The key is so much longer than the
+/// message, and so many places are written.
+fn rows_answer(
+    w: u32,
+    message: &[u32],
+    key: &[u32],
+    [longer, written]: [usize; 2],
+    places: usize,
+) -> u32 {
     if message.len() > MOST_WORDS {
         return 4;
     }
-    if key.len() != message.len() + n {
+    if key.len() != message.len() + longer {
         return 5;
     }
-    if places < n {
+    if places < written {
         return 6;
     }
     let size = two_to(w);
@@ -92,6 +104,46 @@ pub fn words_made(w: u32, bytes: usize) -> usize {
     let closed = bytes as u128 + 1;
     let words = closed.div_ceil(u128::from(w) / 8);
     usize::try_from(words).unwrap_or(usize::MAX)
+}
+
+/// The code as a whole call.
+pub fn digest_code(w: u32, d: u32, message: &[u32], key: &[u32], out: &[u8]) -> Outcome<u8> {
+    let answer = code_answer(w, d, message, key, out.len());
+    let mut out = out.to_vec();
+    if answer == 0 {
+        let code = packed(d as usize, one_word(w, message, key));
+        out[..code.len()].copy_from_slice(&code);
+    }
+    Outcome { answer, out }
+}
+
+fn code_answer(w: u32, d: u32, message: &[u32], key: &[u32], places: usize) -> u32 {
+    if w == 0 || w > 32 {
+        return 1;
+    }
+    if d == 0 || d > most_digits(w) {
+        return 9;
+    }
+    let bytes = d.div_ceil(2) as usize;
+    rows_answer(w, message, key, [1, bytes], places)
+}
+
+/// The most digits of a code: 10^d is not above 2^w. Widths 1 to 3 have none.
+pub fn most_digits(w: u32) -> u32 {
+    let fits = |d: &u32| 10u128.pow(*d) <= two_to(w);
+    (1..=32).take_while(fits).last().unwrap_or(0)
+}
+
+/// The last d decimal digits of the number as they are written, with a zero before an odd d. Two
+/// of them written as one hexadecimal number are a byte.
+fn packed(d: usize, number: u128) -> Vec<u8> {
+    let written = format!("{number:0>40}");
+    let mut digits = written[written.len() - d..].to_string();
+    if d % 2 == 1 {
+        digits.insert(0, '0');
+    }
+    let byte = |place| u8::from_str_radix(&digits[place..place + 2], 16).unwrap();
+    (0..digits.len()).step_by(2).map(byte).collect()
 }
 
 /// The match as a whole call.

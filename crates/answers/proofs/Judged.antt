@@ -2,7 +2,7 @@
 use mathlib.Core.Path.{_≡_, refl, sym, ap, subst, _∙_}
 use mathlib.Core.Bool.{Bool, true, false, not, _||_, true≢false}
 use mathlib.Core.List.{List, [], _∷_}
-use Prim.Native.Nat.{ℕ, suc, _≤_}
+use Prim.Native.Nat.{ℕ, suc, _^_, _≤_}
 use native.Mathlib.Omega.{arith}
 use native.Mathlib.Decide.{ℕ-discrete}
 use lib.Dec.{ltb, eqb}
@@ -10,7 +10,7 @@ use borrow.Author.Tests.{le-ltb, eq-eqb, ne-eqb, ltb-false, eqb-true, eqb-false,
 use Rattle.counts.specs.Digest.{fits}
 use Rattle.counts.specs.Corollaries.{InRange}
 use Rattle.answers.specs.Answers.{Test, test, firstOf, noneOf}
-use Rattle.answers.specs.Table.{badWidth, badByteWidth, badKept, badCount, tooLong, badKey, smallTray, badRows, badWords}
+use Rattle.answers.specs.Table.{badWidth, badByteWidth, badKept, badCount, tooLong, badKey, smallTray, badRows, badWords, badDigits}
 use Rattle.counts.proofs.Fits.{both}
 
 -- r is what the row's function answers, x what the tests after it give
@@ -53,6 +53,9 @@ either : (a b : Bool) → (a || b) ≡ false → (a ≡ false) × (b ≡ false)
 either true b e = absurd (true≢false e)
 either false b e = (refl, e)
 
+above : {x : ℕ} → (x ≡ 0 → ⊥) → 1 ≤ x
+above ne = omega arith
+
 -- for each row, what a call has passed; and that such a call passes
 module _ (w : ℕ) where
   pub width-passed : badWidth w ≡ false → (1 ≤ w) × (w ≤ 32)
@@ -78,13 +81,19 @@ module _ (w : ℕ) where
     pub kept-passed : badKept w b ≡ false → (1 ≤ b) × (b ≤ w)
     unfolding badKept
     kept-passed e = let p = either (eqb b 0) (ltb w b) e in (above (eqb-false b 0 (p .0)), ltb-false w b (p .1))
-      where
-        above : (b ≡ 0 → ⊥) → 1 ≤ b
-        above ne = omega arith
 
     pub kept-passes : 1 ≤ b → b ≤ w → badKept w b ≡ false
     unfolding badKept
     kept-passes h k = rw (ne-eqb b 0 (λ e. omega arith), le-ltb w b k)
+
+  module _ (d : ℕ) where
+    pub digits-passed : badDigits w d ≡ false → (1 ≤ d) × (10 ^ d ≤ 2 ^ w)
+    unfolding badDigits
+    digits-passed e = let p = either (eqb d 0) (ltb (2 ^ w) (10 ^ d)) e in (above (eqb-false d 0 (p .0)), ltb-false (2 ^ w) (10 ^ d) (p .1))
+
+    pub digits-pass : 1 ≤ d → 10 ^ d ≤ 2 ^ w → badDigits w d ≡ false
+    unfolding badDigits
+    digits-pass h k = rw (ne-eqb d 0 (λ e. omega arith), le-ltb (2 ^ w) (10 ^ d) k)
 
 module _ (n : ℕ) where
   pub count-passed : badCount n ≡ false → (1 ≤ n) × (n ≤ 8)

@@ -1,8 +1,8 @@
 -- The rows of document 01's table "Numbers the agent sees": for each the condition, and the test with its number.
--- A call's answer lists its tests in the order in which the document has them tested. 9 to 21 belong to later calls.
+-- A call's answer lists its tests in the order in which the document has them tested. 10 to 21 belong to later calls.
 use mathlib.Core.Bool.{Bool, not, _&&_, _||_}
 use mathlib.Core.List.{List, _++_}
-use Prim.Native.Nat.{ℕ}
+use Prim.Native.Nat.{ℕ, _^_}
 use lib.Dec.{ltb, eqb}
 use lib.ListN.{length, take, drop, replicate}
 use Rattle.counts.specs.Digest.{fits}
@@ -79,6 +79,13 @@ wordTest w ms ks = test 7 (badWords w ms ks)
 -- 8 State: the state is not fit, by the tests that its own definition lists
 abbrev pub stateTest : Bool → Test
 stateTest fit = test 8 (not fit)
+
+-- 9 Digits (02, "Two"): d is 0, or 10^d is above 2^w
+unfoldable pub badDigits : ℕ → ℕ → Bool
+badDigits w d = eqb d 0 || ltb (2 ^ w) (10 ^ d)
+
+abbrev pub digitsTest : ℕ → ℕ → Test
+digitsTest w d = test 9 (badDigits w d)
 
 -- 8 State, a row of a state: n words below 2^w, and every unused place zero, the only number below 2^0
 unfoldable pub fitRow : ℕ → ℕ → List ℕ → Bool

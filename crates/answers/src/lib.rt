@@ -1,8 +1,9 @@
 // What a call answers: the numbers that the agent sees, and a function for each row of their table.
+pub mod decimal;
 mod range;
 pub mod table;
 
-// 0 is an accepted call. 9 to 21 belong to later calls.
+// 0 is an accepted call. 10 to 21 belong to later calls.
 pub const WIDTH: u32 = 1;
 
 pub const KEPT: u32 = 2;
@@ -18,6 +19,8 @@ pub const TRAY: u32 = 6;
 pub const WORD: u32 = 7;
 
 pub const STATE: u32 = 8;
+
+pub const DIGITS: u32 = 9;
 
 pub const MATCH: u32 = 100;
 

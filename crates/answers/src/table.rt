@@ -1,6 +1,8 @@
 // Whether the condition of a row of the table holds of a call: one function for each row.
 ghost use mathlib.Core.Path.{_≡_};
-ghost use Rattle.answers.specs.Table.{badWidth, badByteWidth, badKept, badCount, tooLong, badKey, smallTray, badRows, badWords, fitRow};
+ghost use Prim.Native.Nat.{min};
+ghost use Rattle.answers.specs.Table.{badWidth, badByteWidth, badKept, badCount, tooLong, badKey, smallTray, badRows, badWords, badDigits, fitRow};
+use crate::decimal::power_of_ten;
 use crate::range::row_fits;
 
 // 1 Width.
@@ -85,6 +87,23 @@ pub fn bad_words(w: u32, message: &[u32], key: &[u32]) -> bool
         return !row_fits(w, key);
     }
     true
+}
+
+// 9 Digits. A width above 32, which no word has, counts as 32.
+pub fn bad_digits(w: u32, d: u32) -> bool
+    ensures { λ r. ⌜ r ≡ badDigits (min w 32) d ⌝ }
+{
+    if d == 0 {
+        return true;
+    }
+    // 2^32 lies between 10^9 and 10^10.
+    if 9 < d {
+        return true;
+    }
+    if 32 <= w {
+        return false;
+    }
+    (1u64 << w) < power_of_ten(d)
 }
 
 // 8 State, a row of a state. Only zero is below 2^0.

@@ -3,6 +3,7 @@ ghost use mathlib.Core.Path.{_≡_};
 ghost use Rattle.digest.specs.Words.{digestAnswer, digestRow};
 ghost use Rattle.digest.specs.Bytes.{bytesAnswer, bytesRow};
 ghost use Rattle.digest.specs.Match.{matchAnswer};
+ghost use Rattle.code.specs.Calls.{codeAnswer, codeRow};
 ghost use Rattle.mt19937.specs.Stretch.{stretchAnswer, stretched};
 ghost use lib.ListN.{length};
 
@@ -38,6 +39,22 @@ pub extern "C" fn pairing_digest_bytes(
         ⌝ }
 {
     digest::bytes::digest_bytes(w, b, n, message, key, out)
+}
+
+#[no_mangle]
+pub extern "C" fn pairing_digest_code(
+    w: u32,
+    d: u32,
+    message: &[u32],
+    key: &[u32],
+    out: &mut [u8],
+) -> u32
+    ensures { λ r. ⌜
+        (r ≡ codeAnswer w d (now (message .entry)) (now (key .entry)) (now (out .entry)))
+        × (now (out .exit) ≡ codeRow w d (now (message .entry)) (now (key .entry)) (now (out .entry)))
+        ⌝ }
+{
+    code::digest_code(w, d, message, key, out)
 }
 
 #[no_mangle]

@@ -1,65 +1,95 @@
--- The count by turns, and one key's test as the code makes it.
-use mathlib.Core.Path.{_≡_, refl}
-use mathlib.Core.Bool.{Bool, true, false, _&&_}
-use mathlib.Core.List.{[], _∷_}
-use Prim.Native.Nat.{ℕ, zero, suc, _+_, _≤_, _<_}
-use native.Mathlib.Nat.{mod-mod, mul-zero}
+-- The count over the keys in order, by turns of a loop and by the table; it is at least 1 and at most the claims' bound.
+use mathlib.Core.Path.{_≡_, refl, sym, ap, _∙_}
+use mathlib.Core.Bool.{and-true}
+use mathlib.Core.List.{List, [], _∷_, head-eq-of-cons-eq}
+use Prim.Native.Nat.{ℕ, zero, suc, _+_, _*_, _/_, _%_, _≤_, _<_}
+use native.Mathlib.Nat.{le-refl, mul-zero}
 use native.Mathlib.Numerals.{add-one}
 use native.Mathlib.Omega.{arith}
-use lib.Dec.{eqb}
+use borrow.Author.Tests.{lt-ltb}
 use Rattle.counts.specs.Count.{sumTo, count, overRows, asNumber, sameRow}
-use Rattle.counts.specs.Digest.{wholeSum, oneWord, fullWords, kept, digest}
-use Rattle.sums.specs.Leaf.{leafWord, orZero}
-use Rattle.count_pairs.specs.Agree.{agree, agreeing, agreeingAfter, agreeingAt}
+use Rattle.counts.specs.Digest.{fits, wholeSum, oneWord, fullWords, kept, digest}
+use Rattle.counts.specs.Claims.{Row}
+use Rattle.counts.specs.Corollaries.{keysThatCollide, RowTest, Collisions}
+use Rattle.counts.proofs.Sums.{sum-cong, sum-cong-below, sum-first, sum-prod}
+use Rattle.counts.proofs.Words.{holds}
+use Rattle.counts.proofs.Corollaries.{row-test, collisions}
+use Rattle.code.specs.Code.{codeNumber, code}
+use Rattle.code.specs.Claims.{keysThatAgree, CodeBound}
+use Rattle.code.proofs.Agreeing.{code-bound}
+use Rattle.count_pairs.specs.Agree.{compared, agreeing, boundOf, Bounded, keyAt}
+use Rattle.count_pairs.specs.Table.{Tabled, sameAt, agreeingIn}
 
 -- one more turn of a loop that adds f 0, f 1, ..
 pub sum-more : (f : ℕ → ℕ) (i n r : ℕ) → n ≡ sumTo i f → r ≡ f i → n + r ≡ sumTo (i + 1) f
 unfolding sumTo
 sum-more f i n r e h = rw (e, h, add-one i)
 
-and-true : (b : Bool) → b && true ≡ b
-and-true true = refl
-and-true false = refl
+-- the two parts of a place
+pub quotient : (a b : ℕ) → b < 128 → (a * 128 + b) / 128 ≡ a
+quotient a b h = omega arith
 
--- one key's test, by the two words that the code compares
-pub at-key : (first second k next : ℕ) {x y : ℕ}
-    → x ≡ leafWord 7 (first ∷ []) (k ∷ next ∷ [])
-    → y ≡ leafWord 7 (second ∷ []) (k ∷ next ∷ [])
-    → agreeingAt first second k next ≡ asNumber (eqb x y)
-unfolding agreeingAt count overRows agree sameRow digest fullWords kept oneWord leafWord orZero
-at-key first second k next ex ey = rw (ex, ey) (simp (mod-mod, and-true))
+pub remainder : (a b : ℕ) → b < 128 → (a * 128 + b) % 128 ≡ b
+remainder a b h = omega arith
 
-pub over-next : (first second k : ℕ) → agreeingAfter first second k ≡ sumTo 128 (agreeingAt first second k)
-unfolding agreeingAfter agreeingAt count overRows
-over-next first second k = refl
+-- 1 where the two messages agree under the key, else 0
+agreeUnder : ℕ → ℕ → ℕ → List ℕ → ℕ
+agreeUnder d first second ks = asNumber (sameRow (compared d (first ∷ []) ks) (compared d (second ∷ []) ks))
 
-pub over-first : (first second : ℕ) → agreeing first second ≡ sumTo 128 (agreeingAfter first second)
-unfolding agreeing agreeingAfter count overRows
-over-first first second = refl
+-- one count for the digest and the code, by the row that is compared
+by-rows : (d first second : ℕ) → agreeing d first second ≡ overRows 7 2 (agreeUnder d first second)
+unfolding agreeUnder agreeing compared keysThatCollide keysThatAgree count
+by-rows zero first second = refl
+by-rows (suc d) first second = refl
+
+-- a sum over the keys of two words takes them in order
+in-order : (f : List ℕ → ℕ) → overRows 7 2 f ≡ sumTo 16384 (λ i. f (keyAt i))
+unfolding overRows
+in-order f =
+    sym
+    (sum-prod 128 128 (λ i. f (keyAt i))
+    ∙ sum-cong 128 (λ k. sum-cong-below 128 _ _ (λ next h. rw (quotient k next h, remainder k next h))))
+
+by-keys : (d first second : ℕ) → agreeing d first second ≡ sumTo 16384 (λ i. agreeUnder d first second (keyAt i))
+by-keys d first second = by-rows d first second ∙ in-order (agreeUnder d first second)
+
+-- the table gives the counts
+pub by-table : (d : ℕ) (rows : List (List ℕ)) → Tabled d rows 128 → (first second : ℕ) → first < 128 → second < 128
+    → agreeing d first second ≡ agreeingIn rows first second
+unfolding agreeUnder sameAt sameRow
+by-table d rows tabled first second hf hs =
+    by-keys d first second
+    ∙ sum-cong-below 16384 _ _ (λ i h. rw (tabled first hf i h, tabled second hs i h) (ap asNumber (and-true _)))
 
 -- the key of two zeros gives every message the digest 0, so each pair agrees under some key
-digest-of-zeros : (m : ℕ) → 0 ≡ leafWord 7 (m ∷ []) (0 ∷ 0 ∷ [])
-unfolding leafWord orZero oneWord wholeSum
-digest-of-zeros m = simp mul-zero
+zero-digest : (m : ℕ) → digest 7 7 1 (m ∷ []) (0 ∷ 0 ∷ []) ≡ 0 ∷ []
+unfolding digest fullWords kept oneWord wholeSum
+zero-digest m = simp mul-zero
 
-sum-first : (n : ℕ) (f : ℕ → ℕ) → f 0 ≤ sumTo (suc n) f
-unfolding sumTo
-sum-first zero f = omega arith
-sum-first (suc n) f = omega (arith, sum-first n f)
+zero-key : (d first second : ℕ) → compared d (first ∷ []) (0 ∷ 0 ∷ []) ≡ compared d (second ∷ []) (0 ∷ 0 ∷ [])
+unfolding compared code codeNumber
+zero-key zero first second = zero-digest first ∙ sym (zero-digest second)
+zero-key (suc d) first second = rw (zero-digest first, zero-digest second)
 
-pub some-key : (first second : ℕ) → 1 ≤ agreeing first second
-unfolding asNumber
-some-key first second =
-    let one : agreeingAt first second 0 0 ≡ 1 = at-key first second 0 0 (digest-of-zeros first) (digest-of-zeros second) in
-    omega (
-      arith,
-      sum-first 127 (agreeingAt first second 0),
-      sum-first 127 (agreeingAfter first second),
-      over-next first second 0,
-      over-first first second,
-    )
+pub some-key : (d first second : ℕ) → 1 ≤ agreeing d first second
+unfolding agreeUnder RowTest asNumber
+some-key d first second =
+    let a : List ℕ = compared d (first ∷ []) (keyAt 0) in
+    let b : List ℕ = compared d (second ∷ []) (keyAt 0) in
+    let one : agreeUnder d first second (keyAt 0) ≡ 1 = ap asNumber (holds (sameRow a b) (row-test a b .1 (zero-key d first second))) in
+    omega (arith, by-keys d first second, sum-first 16383 (λ i. agreeUnder d first second (keyAt i)))
 
-pub sum-same : (n : ℕ) (f g : ℕ → ℕ) → ((j : ℕ) → j < n → f j ≡ g j) → sumTo n f ≡ sumTo n g
-unfolding sumTo
-sum-same zero f g h = refl
-sum-same (suc n) f g h = rw (sum-same n f g (λ j less. h j (omega arith)), h n (omega arith))
+-- the claims' bound holds of every pair
+one-word-row : (m : ℕ) → m < 128 → Row 7 1 (m ∷ [])
+unfolding fits
+one-word-row m h = record { long = refl; below = rw (lt-ltb m 128 h) tt }
+
+other-row : (first second : ℕ) → first < second → first ∷ [] ≡ second ∷ [] → ⊥
+other-row first second less e = omega (arith, head-eq-of-cons-eq e)
+
+pub bounded : Bounded
+unfolding Bounded agreeing boundOf Collisions CodeBound
+bounded zero first second less small =
+    collisions 7 7 1 1 (first ∷ []) (second ∷ []) (le-refl 7) (one-word-row first (omega arith)) (one-word-row second small) (other-row first second less)
+bounded (suc d) first second less small =
+    code-bound 7 (suc d) 1 (first ∷ []) (second ∷ []) (one-word-row first (omega arith)) (one-word-row second small) (other-row first second less)

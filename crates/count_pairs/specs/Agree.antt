@@ -1,22 +1,31 @@
--- What the program counts: at width 7, 7 bits kept and one digest word, the two-word keys under which two one-word messages agree.
-use mathlib.Core.Bool.{Bool}
+-- What the program counts: at width 7, the two-word keys under which two one-word messages agree, and the bound on their number.
+-- d says what the two ends compare: at 0 the one-word digest with all 7 bits kept (document 01), else the code of d digits (document 02, "Two").
 use mathlib.Core.List.{List, [], _∷_}
-use Prim.Native.Nat.{ℕ}
-use Rattle.counts.specs.Count.{count, sameRow}
+use Prim.Native.Nat.{ℕ, zero, suc, _+_, _*_, _-_, _/_, _%_, _^_, _≤_, _<_}
 use Rattle.counts.specs.Digest.{digest}
+use Rattle.counts.specs.Corollaries.{keysThatCollide}
+use Rattle.code.specs.Code.{code}
+use Rattle.code.specs.Claims.{keysThatAgree, bound}
 
--- the two messages have the same digest under the key
-unfoldable pub agree : ℕ → ℕ → List ℕ → Bool
-agree first second ks = sameRow (digest 7 7 1 (first ∷ []) ks) (digest 7 7 1 (second ∷ []) ks)
+-- the row that an end compares
+unfoldable pub compared : ℕ → List ℕ → List ℕ → List ℕ
+compared zero ms ks = digest 7 7 1 ms ks
+compared (suc d) ms ks = code 7 (suc d) ms ks
 
--- the keys under which they agree
-unfoldable pub agreeing : ℕ → ℕ → ℕ
-agreeing first second = count 7 2 (agree first second)
+-- the keys under which the messages agree, as the claims count them
+unfoldable pub agreeing : ℕ → ℕ → ℕ → ℕ
+agreeing zero first second = keysThatCollide 7 7 1 1 (first ∷ []) (second ∷ [])
+agreeing (suc d) first second = keysThatAgree 7 (suc d) 1 (first ∷ []) (second ∷ [])
 
--- those of them that begin with the word k
-unfoldable pub agreeingAfter : ℕ → ℕ → ℕ → ℕ
-agreeingAfter first second k = count 7 1 (λ ks. agree first second (k ∷ ks))
+-- their bound: `Collisions` of crate counts at w = b = 7 and n = t = 1, and `CodeBound` of crate code
+unfoldable pub boundOf : ℕ → ℕ
+boundOf zero = 2 ^ (7 * 1 + 1 + 1 * (7 - 7))
+boundOf (suc d) = bound 7 (suc d) 1
 
--- 1 where they agree under the key of the words k and next, else 0
-unfoldable pub agreeingAt : ℕ → ℕ → ℕ → ℕ → ℕ
-agreeingAt first second k next = count 7 0 (λ ks. agree first second (k ∷ next ∷ ks))
+-- it holds of every pair
+unfoldable pub Bounded : Type 0
+Bounded = (d first second : ℕ) → first < second → second < 128 → agreeing d first second ≤ boundOf d
+
+-- the keys in order
+abbrev pub keyAt : ℕ → List ℕ
+keyAt i = i / 128 ∷ i % 128 ∷ []

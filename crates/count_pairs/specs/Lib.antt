@@ -1,2 +1,3 @@
 pub mod Agree
+pub mod Table
 pub mod Search

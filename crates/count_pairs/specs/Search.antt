@@ -1,4 +1,4 @@
--- The largest count of any pair. The pairs stand in a row of 128 · 128 places, place i for the messages i / 128 and i % 128.
+-- The largest number of any pair, where each pair has a number. The pairs stand in a row of 128 · 128 places, place i for the messages i / 128 and i % 128.
 use mathlib.Core.Path.{_≡_}
 use mathlib.Core.Bool.{_&&_}
 use mathlib.Core.List.{List}
@@ -7,15 +7,14 @@ use lib.Dec.{ltb, eqb}
 use lib.ListN.{getD}
 use Rattle.counts.specs.Count.{sumTo, asNumber}
 use Rattle.sums.specs.Leaf.{orZero}
-use Rattle.count_pairs.specs.Agree.{agreeing}
 
--- the count at a place: 0 where the first message is not below the second, so that each pair has one place
-unfoldable pub cellAt : ℕ → ℕ
-cellAt i = orZero (ltb (i / 128) (i % 128)) (agreeing (i / 128) (i % 128))
+-- the number at a place: 0 where the first message is not below the second, so that each pair has one place
+unfoldable pub cellAt : (ℕ → ℕ → ℕ) → ℕ → ℕ
+cellAt f i = orZero (ltb (i / 128) (i % 128)) (f (i / 128) (i % 128))
 
--- the first n numbers of the row are the counts
-abbrev pub Filled : List ℕ → ℕ → Type 0
-Filled xs n = (j : ℕ) → j < n → getD xs j 0 ≡ cellAt j
+-- the first n numbers of the row are those of the pairs
+abbrev pub Filled : (ℕ → ℕ → ℕ) → List ℕ → ℕ → Type 0
+Filled f xs n = (j : ℕ) → j < n → getD xs j 0 ≡ cellAt f j
 
 -- at is the first place, of those below n, with the largest number of the row
 pub record First (xs : List ℕ) (n at : ℕ) : Type 0 where
@@ -27,15 +26,15 @@ pub record First (xs : List ℕ) (n at : ℕ) : Type 0 where
 unfoldable pub standsAt : List ℕ → ℕ → ℕ → ℕ
 standsAt xs x i = asNumber (eqb (getD xs i 0) x)
 
--- 1 where the place is a pair whose count is n, else 0
-unfoldable pub reaches : ℕ → ℕ → ℕ
-reaches n i = asNumber (ltb (i / 128) (i % 128) && eqb (agreeing (i / 128) (i % 128)) n)
+-- 1 where the place is a pair whose number is n, else 0
+unfoldable pub reaches : (ℕ → ℕ → ℕ) → ℕ → ℕ → ℕ
+reaches f n i = asNumber (ltb (i / 128) (i % 128) && eqb (f (i / 128) (i % 128)) n)
 
--- the largest count, the first pair that reaches it (by the first message, then the second), and how many pairs do
-pub record Largest (largest first second pairs : ℕ) : Type 0 where
-  pub most : (a b : ℕ) → a < b → b < 128 → agreeing a b ≤ largest
+-- the largest number, the first pair that reaches it (by the first message, then the second), and how many pairs do
+pub record Largest (f : ℕ → ℕ → ℕ) (largest first second pairs : ℕ) : Type 0 where
+  pub most : (a b : ℕ) → a < b → b < 128 → f a b ≤ largest
   pub ordered : first < second
   pub below : second < 128
-  pub reached : agreeing first second ≡ largest
-  pub before : (a b : ℕ) → a < b → b < 128 → a * 128 + b < first * 128 + second → agreeing a b < largest
-  pub times : pairs ≡ sumTo (128 * 128) (reaches largest)
+  pub reached : f first second ≡ largest
+  pub before : (a b : ℕ) → a < b → b < 128 → a * 128 + b < first * 128 + second → f a b < largest
+  pub times : pairs ≡ sumTo (128 * 128) (reaches f largest)

@@ -1,12 +1,58 @@
-// Counts, for every pair of different one-word messages of seven bits, the keys under which their digests agree.
+// Counts, for every pair of different one-word messages of seven bits, the keys under which their digests agree, and
+// those under which their codes of one and of two digits do.
 ghost use mathlib.Core.Path.{_≡_};
 ghost use Prim.Native.Nat.{_+_, _≤_, _<_};
 ghost use lib.Dec.{eqb};
 ghost use lib.ListN.{length};
 ghost use Rattle.counts.specs.Count.{sumTo, asNumber};
-ghost use Rattle.count_pairs.specs.Agree.{agreeing, agreeingAfter, agreeingAt};
+ghost use Rattle.count_pairs.specs.Agree.{agreeing, boundOf};
+ghost use Rattle.count_pairs.specs.Table.{ValueOf, Valued, Tabled, agreeingRows, agreeingIn};
 ghost use Rattle.count_pairs.specs.Search.{cellAt, Filled, First, standsAt, Largest};
+use answers::decimal;
 use libc::STDOUT_FILENO;
+
+// Row m has the values of the message m under all keys.
+type Table = [[u8; 16384]; 128];
+
+// What an end compares, one word or one byte: the digest where d is 0, else the code of d digits.
+fn value(d: u32, m: u32, key: u32) -> u8
+    requires { ⌜ (d ≤ 2) × ((m < 128) × (key < 16384)) ⌝ }
+    ensures { λ r. ⌜ ValueOf d m key r ⌝ }
+{
+    let message = [m];
+    let words = [key / 128, key % 128];
+    if d == 0 {
+        return sums::one_word(7, &message, &words) as u8;
+    }
+    let mut out = [0u8];
+    code::digest_code(7, d, &message, &words, &mut out);
+    out[0]
+}
+
+fn values_of(d: u32, m: u32) -> [u8; 16384]
+    requires { ⌜ (d ≤ 2) × (m < 128) ⌝ }
+    ensures { λ r. ⌜ Valued d m r 16384 ⌝ }
+{
+    let mut row = [0u8; 16384];
+    let mut i = 0;
+    while i < 16384 {
+        row[i] = value(d, m, i as u32);
+        i += 1;
+    }
+    row
+}
+
+fn fill_table(d: u32, table: &mut Table)
+    requires { ⌜ (d ≤ 2) × (length (now table) ≡ 128) ⌝ }
+    ensures { λ _. ⌜ Tabled d (now (table .exit)) 128 ⌝ }
+{
+    let mut m = 0;
+    while m < 128 {
+        let row = values_of(d, m as u32);
+        table[m] = row;
+        m += 1;
+    }
+}
 
 fn same(a: u32, b: u32) -> u32
     ensures { λ r. ⌜ (r ≡ asNumber (eqb a b)) × (r ≤ 1) ⌝ }
@@ -14,60 +60,46 @@ fn same(a: u32, b: u32) -> u32
     if a == b { 1 } else { 0 }
 }
 
-fn agrees(first: u32, second: u32, k: u32, next: u32) -> u32
-    ensures { λ r. ⌜ (r ≡ agreeingAt first second k next) × (r ≤ 1) ⌝ }
+fn same_value(a: u8, b: u8) -> u32
+    ensures { λ r. ⌜ (r ≡ asNumber (eqb a b)) × (r ≤ 1) ⌝ }
 {
-    let a = [first];
-    let b = [second];
-    let key = [k, next];
-    same(sums::one_word(7, &a, &key), sums::one_word(7, &b, &key))
+    same(a as u32, b as u32)
 }
 
-// The count over the second key word.
-fn agreeing_after(first: u32, second: u32, k: u32) -> u32
-    ensures { λ r. ⌜ (r ≡ agreeingAfter first second k) × (r ≤ 128) ⌝ }
+// How many keys give both messages one value.
+fn agreeing_keys(first: &[u8; 16384], second: &[u8; 16384]) -> u32
+    ensures { λ r. ⌜ r ≡ agreeingRows (now (first .entry)) (now (second .entry)) ⌝ }
 {
     let mut count = 0;
-    let mut next = 0;
-    while next < 128 {
-        count += agrees(first, second, k, next);
-        next += 1;
-    }
-    count
-}
-
-fn agreeing_keys(first: u32, second: u32) -> u32
-    ensures { λ r. ⌜ r ≡ agreeing first second ⌝ }
-{
-    let mut count = 0;
-    let mut k = 0;
-    while k < 128 {
-        count += agreeing_after(first, second, k);
-        k += 1;
+    let mut key = 0;
+    while key < 16384 {
+        count += same_value(first[key], second[key]);
+        key += 1;
     }
     count
 }
 
 // The count at a place of the row of pairs.
-fn cell(place: u32) -> u32
-    ensures { λ r. ⌜ r ≡ cellAt place ⌝ }
+fn cell(table: &Table, place: usize) -> u32
+    requires { ⌜ place < 16384 ⌝ }
+    ensures { λ r. ⌜ r ≡ cellAt (agreeingIn (now (table .entry))) place ⌝ }
 {
     let first = place / 128;
     let second = place % 128;
     if first < second {
-        agreeing_keys(first, second)
+        agreeing_keys(&table[first], &table[second])
     } else {
         0
     }
 }
 
-fn fill(counts: &mut [u32; 16384])
+fn fill_counts(table: &Table, counts: &mut [u32; 16384])
     requires { ⌜ length (now counts) ≡ 16384 ⌝ }
-    ensures { λ _. ⌜ Filled (now (counts .exit)) 16384 ⌝ }
+    ensures { λ _. ⌜ Filled (agreeingIn (now (table .entry))) (now (counts .exit)) 16384 ⌝ }
 {
     let mut i = 0;
     while i < 16384 {
-        counts[i] = cell(i as u32);
+        counts[i] = cell(table, i);
         i += 1;
     }
 }
@@ -111,11 +143,14 @@ struct Answer {
     pairs: u32,
 }
 
-fn search() -> Answer
-    ensures { λ r. ⌜ Largest (r .largest) (r .first) (r .second) (r .pairs) ⌝ }
+fn search(d: u32) -> Answer
+    requires { ⌜ d ≤ 2 ⌝ }
+    ensures { λ r. ⌜ Largest (agreeing d) (r .largest) (r .first) (r .second) (r .pairs) ⌝ }
 {
+    let mut table = [[0u8; 16384]; 128];
+    fill_table(d, &mut table);
     let mut counts = [0u32; 16384];
-    fill(&mut counts);
+    fill_counts(&table, &mut counts);
     let at = first_largest(&counts);
     let largest = counts[at];
     let pairs = times(&counts, largest);
@@ -127,6 +162,17 @@ fn search() -> Answer
     }
 }
 
+// How many keys the claims allow: 2^8 for a digest, (2F + 1)·2^8 for a code, F being 127 div 10^d.
+fn bound(d: u32) -> u64
+    requires { ⌜ d ≤ 2 ⌝ }
+    ensures { λ r. ⌜ r ≡ boundOf d ⌝ }
+{
+    if d == 0 {
+        return 256;
+    }
+    (2 * (127 / decimal::power_of_ten(d)) + 1) * 256
+}
+
 fn number(n: u64) {
     io::print_decimal(STDOUT_FILENO, n);
 }
@@ -135,10 +181,12 @@ fn text(bytes: &[u8]) {
     io::write_all(STDOUT_FILENO, bytes);
 }
 
-fn main() {
-    let answer = search();
-    text(b"width 7, kept 7, one digest word, one-word messages: ");
-    text(b"8128 pairs of different messages, 16384 keys\n");
+// The lines on one d, after what is compared.
+fn report(d: u32)
+    requires { ⌜ d ≤ 2 ⌝ }
+{
+    let answer = search(d);
+    text(b", one-word messages: 8128 pairs of different messages, 16384 keys\n");
     text(b"largest count of keys under which a pair agrees: ");
     number(answer.largest as u64);
     text(b"\nfirst pair that reaches it: ");
@@ -147,5 +195,16 @@ fn main() {
     number(answer.second as u64);
     text(b"\npairs that reach it: ");
     number(answer.pairs as u64);
-    text(b"\nbound: 256\n");
+    text(b"\nbound: ");
+    number(bound(d));
+    text(b"\n");
+}
+
+fn main() {
+    text(b"width 7, kept 7, one digest word");
+    report(0);
+    text(b"width 7, code of 1 digit");
+    report(1);
+    text(b"width 7, code of 2 digits");
+    report(2);
 }

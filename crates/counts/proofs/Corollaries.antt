@@ -1,7 +1,7 @@
 -- Demand 3's corollaries: document 01's ranges, collisions, 003's three theorems, and what the tests inside the count mean.
 -- Assumes nothing.
 use mathlib.Core.Path.{_≡_, refl, sym, ap, ap₂, _∙_, subst}
-use mathlib.Core.Bool.{Bool, true, false, _&&_}
+use mathlib.Core.Bool.{Bool, _&&_}
 use mathlib.Core.List.{List, [], _∷_}
 use Prim.Native.Nat.{ℕ, zero, suc, _+_, _*_, _-_, _%_, _^_, _≤_, _<_}
 use native.Mathlib.Nat.{add-zero, mod-mod, le-refl, le-of-eq, le-trans, mul-le-mul-right, sub-add-cancel, not-suc-le-zero, le-of-suc-le-suc, mul-one, one-mul, mul-comm, suc-ne-zero}
@@ -16,7 +16,7 @@ use Rattle.counts.specs.Corollaries.{CollisionBoundInRange, ExactCountIn
 use Rattle.counts.proofs.Sums.{sum-cong}
 use Rattle.counts.proofs.Rows.{rows-cong, rows-mul, rows-one}
 use Rattle.counts.proofs.Congruent.{eqb-same, at-one}
-use Rattle.counts.proofs.Words.{both, join, both-number, fits-cons}
+use Rattle.counts.proofs.Words.{holds, both, join, both-number, fits-cons}
 use Rattle.counts.proofs.Demand3.{collision-bound, exact-count}
 
 pub collision-bound-in-range : CollisionBoundInRange
@@ -82,11 +82,7 @@ each-row-once w l r h = once w l r (h .long) (h .below)
 
 pub all-rows : AllRows
 unfolding AllRows count asNumber
-all-rows w l = rows-cong w l (λ ks. one (sameRow ks ks) (same-self ks)) ∙ rows-one w l
-  where
-    one : (b : Bool) → T b → asNumber b ≡ 1
-    one true t = refl
-    one false t = absurd t
+all-rows w l = rows-cong w l (λ ks. ap asNumber (holds (sameRow ks ks) (same-self ks))) ∙ rows-one w l
 
 pub zero-differences : ZeroDifferences
 unfolding ZeroDifferences digest fullWords differBy every sameRow kept

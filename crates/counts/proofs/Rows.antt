@@ -6,8 +6,11 @@ use Prim.Native.Nat.{ℕ, zero, suc, _*_, _^_, _≤_}
 use native.Mathlib.Nat.{le-of-eq, le-trans, mul-le-mul-left, mul-zero}
 use native.Mathlib.Omega.{arith}
 use lib.Pow.{pow-add}
+use borrow.Author.Tests.{lt-ltb}
+use Rattle.counts.specs.Digest.{fits}
 use Rattle.counts.specs.Count.{sumTo, overRows}
-use Rattle.counts.proofs.Sums.{sum-cong, sum-le, sum-const, sum-mul, sum-swap}
+use Rattle.counts.specs.Claims.{Row}
+use Rattle.counts.proofs.Sums.{sum-cong, sum-le, sum-le-below, sum-const, sum-mul, sum-swap}
 
 -- what the count's two claims have in common: equality and "at most", both kept by sums and by a factor
 pub record Relation : Type 1 where
@@ -30,6 +33,16 @@ pub rows-rel : (R : Relation) (w l : ℕ) (f g : List ℕ → ℕ) → ((ks : Li
 unfolding overRows
 rows-rel R w zero f g h = h []
 rows-rel R w (suc l) f g h = R .sum (2 ^ w) _ _ (λ k. rows-rel R w l (λ ks. f (k ∷ ks)) (λ ks. g (k ∷ ks)) (λ ks. h (k ∷ ks)))
+
+-- a bound that holds of each row of l words below 2^w
+pub rows-le : (w l : ℕ) (f g : List ℕ → ℕ) → ((ks : List ℕ) → Row w l ks → f ks ≤ g ks) → overRows w l f ≤ overRows w l g
+unfolding overRows fits
+rows-le w zero f g h = h [] (record { long = refl; below = tt })
+rows-le w (suc l) f g h =
+    sum-le-below (2 ^ w) _ _
+    (λ k lt.
+    rows-le w l (λ ks. f (k ∷ ks)) (λ ks. g (k ∷ ks))
+    (λ ks r. h (k ∷ ks) (record { long = ap suc (r .long); below = rw (lt-ltb k (2 ^ w) lt) (r .below) })))
 
 pub rows-mul : (w l a : ℕ) (f : List ℕ → ℕ) → overRows w l (λ ks. a * f ks) ≡ a * overRows w l f
 unfolding overRows

@@ -17,10 +17,13 @@ sum-cong-below (suc n) f g h =
 pub sum-cong : (n : ℕ) {f g : ℕ → ℕ} → ((k : ℕ) → f k ≡ g k) → sumTo n f ≡ sumTo n g
 sum-cong n h = ap (sumTo n) (fun-ext h)
 
-pub sum-le : (n : ℕ) {f g : ℕ → ℕ} → ((k : ℕ) → f k ≤ g k) → sumTo n f ≤ sumTo n g
+pub sum-le-below : (n : ℕ) (f g : ℕ → ℕ) → ((k : ℕ) → k < n → f k ≤ g k) → sumTo n f ≤ sumTo n g
 unfolding sumTo
-sum-le zero h = le-refl 0
-sum-le (suc n) h = add-le-add (sum-le n h) (h n)
+sum-le-below zero f g h = le-refl 0
+sum-le-below (suc n) f g h = add-le-add (sum-le-below n f g (λ k lt. h k (le-step lt))) (h n (lt-suc-self n))
+
+pub sum-le : (n : ℕ) {f g : ℕ → ℕ} → ((k : ℕ) → f k ≤ g k) → sumTo n f ≤ sumTo n g
+sum-le n {f} {g} h = sum-le-below n f g (λ k lt. h k)
 
 pub sum-const : (n a : ℕ) → sumTo n (λ k. a) ≡ n * a
 unfolding sumTo

@@ -14,6 +14,10 @@ use Rattle.counts.specs.Count.{asNumber, sameRow, every, differBy}
 use Rattle.counts.proofs.Congruent.{congruent}
 use Rattle.counts.proofs.Chain.{chain}
 
+pub holds : (b : Bool) → T b → b ≡ true
+holds true t = refl
+holds false t = absurd t
+
 -- both of two tests
 pub both : (a b : Bool) → T (a && b) → T a × T b
 both true b t = (tt, t)

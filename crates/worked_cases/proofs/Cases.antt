@@ -1,4 +1,4 @@
--- Every row of the table of starred cases holds: one test, computed over the whole table, and one theorem.
+-- Every row of the table of cases holds: one test, computed over the whole table, and one theorem.
 -- Assumes nothing.
 use mathlib.Core.Path.{_≡_}
 use mathlib.Core.Bool.{Bool, true, _&&_}
@@ -15,10 +15,12 @@ use Rattle.counts.specs.Corollaries.{RowTest}
 use Rattle.counts.proofs.Words.{both}
 use Rattle.counts.proofs.Corollaries.{row-test}
 use Rattle.answers.specs.Answers.{firstOf, noneOf, afterwards}
-use Rattle.answers.specs.Table.{badWidth, badKept, badCount, badWords, fitRow, padded}
+use Rattle.answers.specs.Table.{badWidth, badKept, badCount, badWords, badDigits, fitRow, padded}
 use Rattle.sums.specs.Sums.{addSums}
 use Rattle.byte_sums.specs.Bytes.{littleEndian, wordsFrom, countOf, inWords, closed, wordsOf}
 use Rattle.digest.specs.Words.{digestAnswer, digestRow}
+use Rattle.code.specs.Code.{codeNumber, digits, evened, paired, packed, code}
+use Rattle.code.specs.Calls.{codeAnswer, codeRow}
 use Rattle.stream.specs.State.{fitState, lastWords, pushed, opened, noStream}
 use Rattle.stream.specs.Calls.{openAnswer, openState, pushAnswer, pushState, readAnswer, reading, readRow}
 use Rattle.mt19937.specs.Published.{following, newWord, newWords, seeded}
@@ -35,5 +37,5 @@ agree-at (c ∷ cs) t zero lt = row-test (c .given) (c .written) .0 (both (sameR
 agree-at (c ∷ cs) t (suc i) lt = agree-at cs (both (sameRow (c .given) (c .written)) (agree cs) t .1) i (le-of-suc-le-suc lt)
 
 pub every-case : (i : ℕ) → i < length cases → getD cases i (case [] []) .given ≡ getD cases i (case [] []) .written
-unfolding agree cases called openAnswer openState pushAnswer pushState readAnswer reading readRow padded fitState addSums lastWords pushed opened noStream wordsOf closed inWords wordsFrom countOf littleEndian seeded newWords table newWord following digestAnswer digestRow firstOf noneOf badWidth badKept badCount badWords fitRow afterwards fits wholeSum oneWord fullWords kept digest sumTo overRows asNumber count sameRow every differBy keysThatDiffer keysThatGive
+unfolding agree cases called openAnswer openState pushAnswer pushState readAnswer reading readRow padded fitState addSums lastWords pushed opened noStream wordsOf closed inWords wordsFrom countOf littleEndian seeded newWords table newWord following digestAnswer digestRow codeAnswer codeRow codeNumber digits evened paired packed code firstOf noneOf badWidth badKept badCount badWords badDigits fitRow afterwards fits wholeSum oneWord fullWords kept digest sumTo overRows asNumber count sameRow every differBy keysThatDiffer keysThatGive
 every-case = agree-at cases tt

@@ -1,4 +1,4 @@
--- Document 01's starred cases: what the definitions give, and what the document says. One row for each case.
+-- Document 01's starred cases, and document 02's of the code: what the definitions give, and what the document says. One row for each case.
 use mathlib.Core.List.{List, [], _∷_}
 use Prim.Native.Nat.{ℕ, _+_, _*_, _-_, _^_}
 use lib.ListN.{take, replicate}
@@ -6,6 +6,7 @@ use Rattle.counts.specs.Count.{count, sameRow}
 use Rattle.counts.specs.Claims.{keysThatDiffer, keysThatGive}
 use Rattle.byte_sums.specs.Bytes.{wordsOf}
 use Rattle.digest.specs.Words.{digestAnswer, digestRow}
+use Rattle.code.specs.Calls.{codeAnswer, codeRow}
 use Rattle.stream.specs.Calls.{openState, pushState, readRow}
 use Rattle.mt19937.specs.Published.{seeded}
 
@@ -78,5 +79,12 @@ caseJ =
 abbrev pub caseK : Case
 caseK = case (take 3 (seeded 0 .words)) (0 ∷ 1 ∷ 1812433255 ∷ [])
 
+-- 02, "Two": at w 8 and d 2 the digest 255, which is B's, is the byte 0x55; the answer, then the output row
+abbrev pub caseCode : Case
+caseCode =
+    case
+    (codeAnswer 8 2 (255 ∷ []) (255 ∷ 255 ∷ []) (0 ∷ []) ∷ codeRow 8 2 (255 ∷ []) (255 ∷ 255 ∷ []) (0 ∷ []))
+    (0 ∷ 0x55 ∷ [])
+
 unfoldable pub cases : List Case
-cases = caseA ∷ caseB ∷ caseC ∷ caseD ∷ caseE ∷ caseF ∷ caseG ∷ caseH ∷ caseI ∷ caseJ ∷ caseK ∷ []
+cases = caseA ∷ caseB ∷ caseC ∷ caseD ∷ caseE ∷ caseF ∷ caseG ∷ caseH ∷ caseI ∷ caseJ ∷ caseK ∷ caseCode ∷ []

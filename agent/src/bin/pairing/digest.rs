@@ -1,10 +1,10 @@
 //! `pairing digest` and `pairing digest-words`.
 
-use crate::args::{missing, Args};
-use crate::ending::{usage, Answer, Failure};
+use crate::args::Args;
+use crate::ending::{Answer, Failure};
+use crate::keyed::{key_help, Keyed, Sources};
 use crate::message::Message;
-use crate::seed::Seed;
-use crate::{input, refused};
+use crate::refused;
 use pairing_agent::{Refusal, Settings, MOST_DIGEST_WORDS};
 use std::ffi::OsStr;
 
@@ -13,14 +13,12 @@ pub const OPTIONS: &[&str] = &["--width", "--kept", "--words", "--seed", "--key"
 /// What the help of both commands says of their options after the width.
 macro_rules! options_help {
     () => {
-        "  --kept B     low bits kept of each digest word, 1 to W; W if not given
+        concat!(
+            "  --kept B     low bits kept of each digest word, 1 to W; W if not given
   --words N    digest words, 1 to 8; 1 if not given
-  --seed S     stretch the key from this seed, as long as the message needs it;
-               @FILE takes the seed from a file, and @- from standard input:
-               unlike an argument, those show in no list of processes
-  --key FILE   take the key from a file of numbers, separated by white space;
-               it has N words more than the message; - is standard input
-"
+",
+            key_help!("N words")
+        )
     };
 }
 
@@ -56,34 +54,33 @@ Prints the digest words, each as eight hexadecimal digits.
 "
 );
 
-/// Where the key comes from.
-enum Key<'a> {
-    Seed(Seed<'a>),
-    File(&'a OsStr),
+struct Digest {
+    settings: Settings,
+    message: Message,
 }
 
-impl Key<'_> {
-    fn given(args: &Args) -> Result<Key<'_>, Failure> {
-        match (Seed::given(args)?, args.value("--key")) {
-            (Some(seed), None) => Ok(Key::Seed(seed)),
-            (None, Some(file)) => Ok(Key::File(file)),
-            (None, None) => Err(missing("--seed or --key")),
-            (Some(_), Some(_)) => Err(usage("only one of --seed and --key can be given")),
-        }
+impl Keyed for Digest {
+    fn width(&self) -> u32 {
+        self.settings.width
     }
 
-    fn is_standard_input(&self) -> bool {
-        match self {
-            Key::Seed(Seed::File(file)) | Key::File(file) => *file == "-",
-            Key::Seed(Seed::Number(_)) => false,
-        }
+    fn key_words(&self) -> usize {
+        self.settings.key_words(self.message.words(self.settings))
     }
 
-    fn read(&self, settings: Settings, message: &Message) -> Result<Vec<u32>, Failure> {
-        match self {
-            Key::Seed(seed) => stretched(settings, message, seed.read()?),
-            Key::File(file) => input::numbers(file),
-        }
+    fn text(&self, key: &[u32]) -> Result<String, Refusal> {
+        // Room for the largest digest, so that the output is never too short.
+        let mut out = [0; MOST_DIGEST_WORDS];
+        self.message.digest(self.settings, key, &mut out)?;
+        let words = out[..self.settings.words as usize]
+            .iter()
+            .map(|word| format!("{word:08x}"))
+            .collect::<Vec<_>>();
+        Ok(words.join(" "))
+    }
+
+    fn refused(&self, refusal: Refusal, key: &[u32]) -> Failure {
+        refused::digest(refusal, self.settings, &self.message, key)
     }
 }
 
@@ -102,39 +99,7 @@ fn run(args: &Args, read: fn(&OsStr) -> Result<Message, Failure>) -> Result<Answ
         kept: args.number("--kept")?.unwrap_or(width),
         words: args.number("--words")?.unwrap_or(1),
     };
-    let key = Key::given(args)?;
-    let [file] = args.operands(["FILE"])?;
-    if file == "-" && key.is_standard_input() {
-        return Err(usage(
-            "only one of message, seed and key can be standard input",
-        ));
-    }
-    let message = read(file)?;
-    let key = key.read(settings, &message)?;
-    // Room for the largest digest, so that the output is never too short.
-    let mut out = [0; MOST_DIGEST_WORDS];
-    message
-        .digest(settings, &key, &mut out)
-        .map_err(|refusal| refused::digest(refusal, settings, &message, &key))?;
-    let words = out[..settings.words as usize]
-        .iter()
-        .map(|word| format!("{word:08x}"))
-        .collect::<Vec<_>>();
-    Ok(Answer::accepted(words.join(" ") + "\n"))
-}
-
-/// The key for the message, from the seed.
-///
-/// A key has a word at least, so a first call under an empty one is refused: with Width, Kept,
-/// Count or Long as it would be under any key, or else with Key. Then settings and message are
-/// fit, and the key's length is known.
-fn stretched(settings: Settings, message: &Message, seed: u32) -> Result<Vec<u32>, Failure> {
-    let refused = |refusal| refused::digest(refusal, settings, message, &[]);
-    match message.digest(settings, &[], &mut []) {
-        Err(Refusal::Key) => {}
-        answer => answer.map_err(refused)?,
-    }
-    let mut key = vec![0; settings.key_words(message.words(settings))];
-    pairing_agent::stretch(settings.width, seed, &mut key).map_err(refused)?;
-    Ok(key)
+    let sources = Sources::given(args)?;
+    let message = read(sources.message)?;
+    sources.answer(&Digest { settings, message })
 }

@@ -1,17 +1,19 @@
 //! The command line of the pairing toolkit.
 //!
-//! Every digest, key and match is the proved library's. Settings and lengths go to it as they
+//! Every digest, code, key and match is the proved library's. Settings and lengths go to it as they
 //! were given, and its answer decides.
 
 #![deny(unsafe_code)]
 
 mod args;
+mod code;
 mod count;
 mod digest;
 mod ending;
 mod explain;
 mod histogram;
 mod input;
+mod keyed;
 mod matching;
 mod message;
 mod number;
@@ -38,6 +40,7 @@ Usage: pairing COMMAND ...
 
   digest         the digest of a file's bytes
   digest-words   the digest of a row of words
+  code           the code of a row of words: digits to be read aloud
   stretch        key words from a seed
   match          whether two digests agree
   count          the largest count of keys under which two messages agree
@@ -66,7 +69,7 @@ struct Command {
     run: fn(Args) -> Result<Answer, Failure>,
 }
 
-static COMMANDS: [Command; 6] = [
+static COMMANDS: [Command; 7] = [
     Command {
         name: "digest",
         help: digest::BYTES_HELP,
@@ -78,6 +81,12 @@ static COMMANDS: [Command; 6] = [
         help: digest::WORDS_HELP,
         options: digest::OPTIONS,
         run: digest::words,
+    },
+    Command {
+        name: "code",
+        help: code::HELP,
+        options: code::OPTIONS,
+        run: code::run,
     },
     Command {
         name: "stretch",

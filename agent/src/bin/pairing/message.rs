@@ -26,6 +26,14 @@ impl Message {
         }
     }
 
+    /// Its words where they were given, and may be too large; those that bytes make never are.
+    pub fn given_words(&self) -> &[u32] {
+        match self {
+            Message::Bytes(_) => &[],
+            Message::Words(words) => words,
+        }
+    }
+
     /// Its length in words.
     pub fn words(&self, settings: Settings) -> usize {
         match self {

@@ -25,7 +25,19 @@ pub fn digest(refusal: Refusal, settings: Settings, message: &Message, key: &[u3
         }
         Refusal::Count => Some(count_figures(words)),
         Refusal::Long => Some(long_figures(message, settings)),
-        Refusal::Key => Some(key_figures(message, settings, key.len())),
+        Refusal::Key => Some(key_figures(message.words(settings), words, key.len())),
+        Refusal::Word => word_figures(message.given_words(), width, key),
+        _ => None,
+    };
+    Failure::Refused(refusal, figures)
+}
+
+pub fn code(refusal: Refusal, width: u32, digits: u32, message: &[u32], key: &[u32]) -> Failure {
+    let figures = match refusal {
+        Refusal::Width => Some(width_figures(width, WIDTHS)),
+        Refusal::Digits => Some(digits_figures(digits, width)),
+        Refusal::Long => Some(most_words("", message.len())),
+        Refusal::Key => Some(key_figures(message.len(), 1, key.len())),
         Refusal::Word => word_figures(message, width, key),
         _ => None,
     };
@@ -67,6 +79,17 @@ fn width_figures(width: u32, widths: &str) -> String {
     format!("width {}; {widths}", thousands(width))
 }
 
+fn digits_figures(digits: u32, width: u32) -> String {
+    // The most digits: the largest d with 10^d at most 2^w.
+    let passing = match (1u64 << width).ilog10() {
+        0 => "no number of digits passes".into(),
+        1 => "only 1 passes".into(),
+        most => format!("1 to {most}"),
+    };
+    let digits = counted(digits as usize, "digit");
+    format!("{digits}; {passing} at width {width}")
+}
+
 fn count_figures(words: u32) -> String {
     format!(
         "{} digest words; 1 to {MOST_DIGEST_WORDS}",
@@ -79,7 +102,10 @@ fn long_figures(message: &Message, settings: Settings) -> String {
         Message::Bytes(bytes) if bytes.len() == MOST_BYTES => "at least ",
         _ => "",
     };
-    let words = message.words(settings);
+    most_words(bound, message.words(settings))
+}
+
+fn most_words(bound: &str, words: usize) -> String {
     at_most(bound, words, "message words", MOST_MESSAGE_WORDS)
 }
 
@@ -88,24 +114,18 @@ fn at_most(bound: &str, number: usize, things: &str, most: usize) -> String {
     format!("{bound}{number} {things}; at most {most}")
 }
 
-fn key_figures(message: &Message, settings: Settings, key_words: usize) -> String {
-    let message_words = message.words(settings);
+fn key_figures(message_words: usize, digest_words: u32, key_words: usize) -> String {
     format!(
-        "a key of {}; a message of {} and a digest of {} take {}",
+        "a key of {}; a message of {} and a digest of {digest_words} take {}",
         counted(key_words, "word"),
         thousands(message_words),
-        settings.words,
-        thousands(settings.key_words(message_words))
+        thousands(message_words + digest_words as usize)
     )
 }
 
 /// The first word that is too large, of the message or else of the key.
-fn word_figures(message: &Message, width: u32, key: &[u32]) -> Option<String> {
+fn word_figures(message: &[u32], width: u32, key: &[u32]) -> Option<String> {
     let most = (1u64 << width) - 1;
-    let message = match message {
-        Message::Bytes(_) => &[][..],
-        Message::Words(words) => words,
-    };
     [("message", message), ("key", key)]
         .into_iter()
         .find_map(|(row, words)| {

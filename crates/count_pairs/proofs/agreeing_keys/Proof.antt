@@ -1,43 +1,48 @@
--- `count_pairs::agreeing_keys` meets its contract: each turn adds the keys that begin with one word.
-use Prim.Native.Nat.{_-_, _*_, _≤_}
-use mathlib.Core.Path.{_≡_, _∙_, sym}
+-- `count_pairs::agreeing_keys` meets its contract: each turn adds one key's test.
+use mathlib.Core.Path.{_≡_}
+use Prim.Native.Nat.{_-_, _≤_}
 use native.Mathlib.Omega.{arith}
 use borrow.Author.Needs.{needs}
 use Rattle.counts.specs.Count.{sumTo}
-use Rattle.count_pairs.specs.Agree.{agreeingAfter}
-use Rattle.count_pairs.proofs.Laws.{sum-more, over-first}
+use Rattle.count_pairs.specs.Table.{sameAt}
+use Rattle.count_pairs.proofs.Laws.{sum-more}
 use Rattle.count_pairs.proofs.agreeing_keys.Statement.{statement}
 use Rattle.count_pairs.proofs.agreeing_keys.Tie as tie
 
 abbrev Inv-loop : tie.InvT-loop
-Inv-loop first second count₀ k₀ count k = (count ≡ sumTo k (agreeingAfter first second)) × ((count ≤ 128 * k) × (k ≤ 128))
+Inv-loop first second count₀ key₀ count key = (count ≡ sumTo key (sameAt first second)) × ((count ≤ key) × (key ≤ 16384))
 
 abbrev μ-loop : tie.MeasureT-loop
-μ-loop first second count₀ k₀ count k = 128 - k
+μ-loop first second count₀ key₀ count key = 16384 - key
 
 loop-holds : tie.Need-loop-holds Inv-loop μ-loop
 unfolding sumTo
 loop-holds c = search needs
 
-agreeing-after-requires : tie.Need-agreeing-after-requires Inv-loop μ-loop
-agreeing-after-requires c κs = search needs
+element-copy-out-same-value : tie.Need-element-copy-out-same-value Inv-loop μ-loop
+element-copy-out-same-value c = search needs
+
+element-copy-out-same-value-2 : tie.Need-element-copy-out-same-value-2 Inv-loop μ-loop
+element-copy-out-same-value-2 c = search needs
+
+same-value-requires : tie.Need-same-value-requires Inv-loop μ-loop
+same-value-requires c κs = search needs
 
 add-count : tie.Need-add-count Inv-loop μ-loop
 add-count c = search needs
 
-add-k : tie.Need-add-k Inv-loop μ-loop
-add-k c = search needs
+add-key : tie.Need-add-key Inv-loop μ-loop
+add-key c = search needs
 
 loop-less : tie.Need-loop-less Inv-loop μ-loop
 loop-less c = search needs
 
 loop-again : tie.Need-loop-again Inv-loop μ-loop
-loop-again c = (sum-more _ _ _ _ (c .before .before .loop .inv .0) (c .agreeing-after .ensures .0), search needs)
+unfolding sameAt
+loop-again c = (sum-more _ _ _ _ (c .before .before .before .before .loop .inv .0) (c .same-value .ensures .0), search needs)
 
 returns : tie.Need-returns Inv-loop μ-loop
-returns c =
-    let all : c .before .loop .k ≡ 128 = omega arith in
-    rw all at (c .before .loop .inv .0) ∙ sym (over-first _ _)
+returns c = let all : c .before .loop .key ≡ 16384 = omega arith in rw all at (c .before .loop .inv .0)
 
 pub agreeing-keys-spec : {M : Type 1} → statement M
 agreeing-keys-spec =
@@ -46,9 +51,11 @@ agreeing-keys-spec =
     Inv-loop
     μ-loop
     loop-holds
-    agreeing-after-requires
+    element-copy-out-same-value
+    element-copy-out-same-value-2
+    same-value-requires
     add-count
-    add-k
+    add-key
     loop-less
     loop-again
     returns)

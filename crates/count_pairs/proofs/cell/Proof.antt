@@ -7,13 +7,25 @@ use Rattle.count_pairs.specs.Search.{cellAt}
 use Rattle.count_pairs.proofs.cell.Statement.{statement}
 use Rattle.count_pairs.proofs.cell.Tie as tie
 
+mul-agreeing-keys : tie.Need-mul-agreeing-keys
+mul-agreeing-keys c = search needs
+
+index-1-agreeing-keys : tie.Need-index-1-agreeing-keys
+index-1-agreeing-keys c = search needs
+
+mul-agreeing-keys-2 : tie.Need-mul-agreeing-keys-2
+mul-agreeing-keys-2 c = search needs
+
+index-1-agreeing-keys-2 : tie.Need-index-1-agreeing-keys-2
+index-1-agreeing-keys-2 c = search needs
+
 agreeing-keys-requires : tie.Need-agreeing-keys-requires
 agreeing-keys-requires c κs = search needs
 
 returns : tie.Need-returns
 unfolding cellAt orZero
 returns c =
-    let place = c .before .before .args .place in
+    let place = c .before .before .before .before .args .place in
     rw (lt-ltb (place / 128) (place % 128) (search needs)) (c .agreeing-keys .ensures)
 
 returns-2 : tie.Need-returns-2
@@ -23,4 +35,13 @@ returns-2 c =
     rw (le-ltb (place / 128) (place % 128) (search needs))
 
 pub cell-spec : {M : Type 1} → statement M
-cell-spec = tie.close (tie.spec agreeing-keys-requires returns returns-2)
+cell-spec =
+    tie.close
+    (tie.spec
+    mul-agreeing-keys
+    index-1-agreeing-keys
+    mul-agreeing-keys-2
+    index-1-agreeing-keys-2
+    agreeing-keys-requires
+    returns
+    returns-2)

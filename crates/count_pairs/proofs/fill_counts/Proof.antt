@@ -1,26 +1,24 @@
--- `count_pairs::fill` meets its contract: the places passed hold their counts.
+-- `count_pairs::fill_counts` meets its contract: the places passed hold their counts.
 use mathlib.Core.Path.{_≡_}
 use Prim.Native.Nat.{_-_, _≤_}
-use native.Mathlib.Nat.{not-suc-le-zero}
 use native.Mathlib.Omega.{arith}
+use borrow.Author.Count.{below-none}
 use borrow.Author.Needs.{needs}
-use lib.ListN.{length, length-set}
-use Rattle.count_pairs.specs.Search.{Filled}
-use Rattle.count_pairs.proofs.Row.{filled-more}
-use Rattle.count_pairs.proofs.fill.Statement.{statement}
-use Rattle.count_pairs.proofs.fill.Tie as tie
+use lib.ListN.{length}
+use Rattle.count_pairs.specs.Table.{agreeingIn}
+use Rattle.count_pairs.specs.Search.{cellAt, Filled}
+use Rattle.count_pairs.proofs.Row.{set-more}
+use Rattle.count_pairs.proofs.fill_counts.Statement.{statement}
+use Rattle.count_pairs.proofs.fill_counts.Tie as tie
 
 abbrev Inv-loop : tie.InvT-loop
-Inv-loop counts₀ i₀ counts i = (i ≤ 16384) × ((length counts ≡ 16384) × Filled counts i)
+Inv-loop table counts₀ i₀ counts i = (i ≤ 16384) × ((length counts ≡ 16384) × Filled (agreeingIn table) counts i)
 
 abbrev μ-loop : tie.MeasureT-loop
-μ-loop counts₀ i₀ counts i = 16384 - i
+μ-loop table counts₀ i₀ counts i = 16384 - i
 
 loop-holds : tie.Need-loop-holds Inv-loop μ-loop
-loop-holds c = (search needs, (c .pre, λ j h. absurd (not-suc-le-zero h)))
-
-cast-cell : tie.Need-cast-cell Inv-loop μ-loop
-cast-cell c = search needs
+loop-holds c = (search needs, (c .pre, below-none _))
 
 cell-requires : tie.Need-cell-requires Inv-loop μ-loop
 cell-requires c κs = search needs
@@ -39,20 +37,20 @@ loop-less c = search needs
 
 loop-again : tie.Need-loop-again Inv-loop μ-loop
 loop-again c =
+    let table = c .before .before .before .args .table .now in
     let l = c .before .before .loop in
-    (search needs, (simp length-set (l .inv .1 .0), filled-more (l .counts) (l .i) (c .cell .result) (omega arith) (c .cell .ensures) (l .inv .1 .1)))
+    (search needs, set-more (λ j x. x ≡ cellAt (agreeingIn table) j) 0 16384 (l .counts) (l .i) (c .cell .result) (search needs) (c .cell .ensures) (l .inv .1))
 
 returns : tie.Need-returns Inv-loop μ-loop
 returns c = let all : c .before .loop .i ≡ 16384 = omega arith in rw all at (c .before .loop .inv .1 .1)
 
-pub fill-spec : {M : Type 1} → statement M
-fill-spec =
+pub fill-counts-spec : {M : Type 1} → statement M
+fill-counts-spec =
     tie.close
     (tie.spec
     Inv-loop
     μ-loop
     loop-holds
-    cast-cell
     cell-requires
     mul-counts
     element-write-counts

@@ -1,0 +1,112 @@
+//! What the commands share that take a message and a key.
+
+use crate::args::{missing, Args};
+use crate::ending::{usage, Answer, Failure};
+use crate::input;
+use crate::seed::Seed;
+use pairing_agent::Refusal;
+use std::ffi::OsStr;
+
+/// What their help says of the key, which is so much longer than the message.
+macro_rules! key_help {
+    ($longer:literal) => {
+        concat!(
+            "  --seed S     stretch the key from this seed, as long as the message needs it;
+               @FILE takes the seed from a file, and @- from standard input:
+               unlike an argument, those show in no list of processes
+  --key FILE   take the key from a file of numbers, separated by white space;
+               it has ",
+            $longer,
+            " more than the message; - is standard input
+"
+        )
+    };
+}
+pub(crate) use key_help;
+
+/// A call that takes a key, with all but the key.
+pub trait Keyed {
+    fn width(&self) -> u32;
+
+    /// How many words the key has.
+    fn key_words(&self) -> usize;
+
+    /// What is printed of the call under that key.
+    fn text(&self, key: &[u32]) -> Result<String, Refusal>;
+
+    /// The refusal with the figures of the call under that key.
+    fn refused(&self, refusal: Refusal, key: &[u32]) -> Failure;
+}
+
+/// Where message and key come from.
+pub struct Sources<'a> {
+    pub message: &'a OsStr,
+    key: Key<'a>,
+}
+
+impl Sources<'_> {
+    pub fn given(args: &Args) -> Result<Sources<'_>, Failure> {
+        let key = Key::given(args)?;
+        let [message] = args.operands(["FILE"])?;
+        if message == "-" && key.is_standard_input() {
+            return Err(usage(
+                "only one of message, seed and key can be standard input",
+            ));
+        }
+        Ok(Sources { message, key })
+    }
+
+    /// The answer of the call under the key.
+    pub fn answer(&self, call: &impl Keyed) -> Result<Answer, Failure> {
+        let key = self.key.read(call)?;
+        let text = call.text(&key);
+        let text = text.map_err(|refusal| call.refused(refusal, &key))?;
+        Ok(Answer::accepted(text + "\n"))
+    }
+}
+
+enum Key<'a> {
+    Seed(Seed<'a>),
+    File(&'a OsStr),
+}
+
+impl Key<'_> {
+    fn given(args: &Args) -> Result<Key<'_>, Failure> {
+        match (Seed::given(args)?, args.value("--key")) {
+            (Some(seed), None) => Ok(Key::Seed(seed)),
+            (None, Some(file)) => Ok(Key::File(file)),
+            (None, None) => Err(missing("--seed or --key")),
+            (Some(_), Some(_)) => Err(usage("only one of --seed and --key can be given")),
+        }
+    }
+
+    fn is_standard_input(&self) -> bool {
+        match self {
+            Key::Seed(Seed::File(file)) | Key::File(file) => *file == "-",
+            Key::Seed(Seed::Number(_)) => false,
+        }
+    }
+
+    fn read(&self, call: &impl Keyed) -> Result<Vec<u32>, Failure> {
+        match self {
+            Key::Seed(seed) => stretched(call, seed.read()?),
+            Key::File(file) => input::numbers(file),
+        }
+    }
+}
+
+/// The key for the call, from the seed.
+///
+/// A key has a word at least, so a first call under an empty one is refused: with a test that comes
+/// before Key, as it would be under any key, or else with Key. Then settings and message are fit,
+/// and the key's length is known.
+fn stretched(call: &impl Keyed, seed: u32) -> Result<Vec<u32>, Failure> {
+    match call.text(&[]) {
+        Ok(_) | Err(Refusal::Key) => {}
+        Err(refusal) => return Err(call.refused(refusal, &[])),
+    }
+    let mut key = vec![0; call.key_words()];
+    pairing_agent::stretch(call.width(), seed, &mut key)
+        .map_err(|refusal| call.refused(refusal, &[]))?;
+    Ok(key)
+}

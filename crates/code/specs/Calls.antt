@@ -1,0 +1,25 @@
+-- The promise of the call (document 02, "Two"): w, d, the message, the key, and the output row as it is lent.
+use mathlib.Core.List.{List, [], _∷_}
+use Prim.Native.Nat.{ℕ, _+_, _/_}
+use lib.ListN.{length}
+use Rattle.answers.specs.Answers.{firstOf, afterwards}
+use Rattle.answers.specs.Table.{widthTest, digitsTest, longTest, keyTest, trayTest, wordTest}
+use Rattle.code.specs.Code.{code}
+
+-- 01, "1 to 7 in order", with Digits "tested just after Width"; there is no b and no n, so neither Kept nor Count.
+-- An accepted call writes a byte for two digits. 0 for an accepted call
+unfoldable pub codeAnswer : ℕ → ℕ → List ℕ → List ℕ → List ℕ → ℕ
+codeAnswer w d ms ks out =
+    firstOf
+    (widthTest w
+    ∷ digitsTest w d
+    ∷ longTest (length ms)
+    ∷ keyTest (length ms + 1) (length ks)
+    ∷ trayTest ((d + 1) / 2) (length out)
+    ∷ wordTest w ms ks
+    ∷ [])
+    0
+
+-- the output row after the call
+unfoldable pub codeRow : ℕ → ℕ → List ℕ → List ℕ → List ℕ → List ℕ
+codeRow w d ms ks out = afterwards (codeAnswer w d ms ks out) (code w d ms ks) out

@@ -1,0 +1,56 @@
+-- How many keys give two messages one code (document 02, "Two"), for every width w, every d and every message length t.
+use mathlib.Core.Bool.{Bool}
+use mathlib.Core.Logic.{_≢_}
+use mathlib.Core.List.{List}
+use Prim.Native.Nat.{ℕ, _+_, _*_, _-_, _/_, _^_, _≤_}
+use lib.Dec.{eqb}
+use lib.ListN.{length, getD}
+use Rattle.counts.specs.Count.{count, sameRow, every}
+use Rattle.counts.specs.Claims.{Row}
+use Rattle.code.specs.Code.{code}
+use Rattle.code.specs.Calls.{codeRow}
+
+-- how many keys of t + 1 words give both messages one code, byte for byte
+unfoldable pub keysThatAgree : ℕ → ℕ → ℕ → List ℕ → List ℕ → ℕ
+keysThatAgree w d t first second = count w (t + 1) (λ ks. sameRow (code w d first ks) (code w d second ks))
+
+-- "F being (2^w − 1) div 10^d"
+unfoldable pub largestQuotient : ℕ → ℕ → ℕ
+largestQuotient w d = (2 ^ w - 1) / 10 ^ d
+
+-- "at most (2F + 1)·2^(w·t + 1) of the keys give one code"
+unfoldable pub bound : ℕ → ℕ → ℕ → ℕ
+bound w d t = (2 * largestQuotient w d + 1) * 2 ^ (w * t + 1)
+
+-- two different messages of t words: their codes agree under no more keys than the bound. It asks nothing of w, d and t
+unfoldable pub CodeBound : Type 0
+CodeBound =
+    (w d t : ℕ) (first second : List ℕ) → Row w t first → Row w t second → first ≢ second → keysThatAgree w d t first second ≤ bound w d t
+
+-- 02, "Two", and 01, "Settings": the ranges that a call's w and d have passed
+pub record InRange (w d : ℕ) : Type 0 where
+  pub some-width : 1 ≤ w
+  pub width : w ≤ 32
+  pub some-digits : 1 ≤ d
+  pub digits : 10 ^ d ≤ 2 ^ w
+
+-- two rows agree in the bytes of a code, compared byte by byte
+unfoldable pub bytesAgree : ℕ → List ℕ → List ℕ → Bool
+bytesAgree d first second = every ((d + 1) / 2) (λ i. eqb (getD first i 0) (getD second i 0))
+
+-- how many keys of t + 1 words make two calls write the same bytes, each into an output of its own
+unfoldable pub keysThatMatch : ℕ → ℕ → ℕ → List ℕ → List ℕ → List ℕ → List ℕ → ℕ
+keysThatMatch w d t first second out out′ = count w (t + 1) (λ ks. bytesAgree d (codeRow w d first ks out) (codeRow w d second ks out′))
+
+-- a false match, counted as the agent makes it: two different messages of t words, outputs that have room
+unfoldable pub FalseCodes : Type 0
+FalseCodes =
+    (w d t : ℕ) (first second out out′ : List ℕ)
+    → InRange w d
+    → t ≤ 65536
+    → (d + 1) / 2 ≤ length out
+    → (d + 1) / 2 ≤ length out′
+    → Row w t first
+    → Row w t second
+    → first ≢ second
+    → keysThatMatch w d t first second out out′ ≤ bound w d t

@@ -1,0 +1,34 @@
+-- The code for the telephone (document 02, "Two"), a packed decimal number.
+use mathlib.Core.Bool.{cond}
+use mathlib.Core.List.{List, [], _∷_, _++_}
+use Prim.Native.Nat.{ℕ, zero, suc, _+_, _*_, _/_, _%_, _^_}
+use lib.Dec.{eqb}
+use lib.ListN.{length, getD}
+use Rattle.counts.specs.Digest.{digest}
+
+-- "The one-word digest of message words, all w bits kept, modulo 10^d"
+unfoldable pub codeNumber : ℕ → ℕ → List ℕ → List ℕ → ℕ
+codeNumber w d ms ks = getD (digest w w 1 ms ks) 0 0 % 10 ^ d
+
+-- the last d decimal digits of a number, "high digit first, leading zeros"
+unfoldable pub digits : ℕ → ℕ → List ℕ
+digits zero x = []
+digits (suc d) x = digits d (x / 10) ++ (x % 10 ∷ [])
+
+-- "one more zero before an odd d"
+unfoldable pub evened : List ℕ → List ℕ
+evened ds = cond (eqb (length ds % 2) 0) ds (0 ∷ ds)
+
+-- "two digits a byte, high digit first"; a digit that is left alone, which an even number of digits has not, is a byte's high digit
+unfoldable pub paired : List ℕ → List ℕ
+paired [] = []
+paired (high ∷ []) = high * 16 ∷ []
+paired (high ∷ low ∷ ds) = (high * 16 + low) ∷ paired ds
+
+-- "packed decimal"
+unfoldable pub packed : List ℕ → List ℕ
+packed ds = paired (evened ds)
+
+-- the code of a message under a key, as bytes
+unfoldable pub code : ℕ → ℕ → List ℕ → List ℕ → List ℕ
+code w d ms ks = packed (digits d (codeNumber w d ms ks))

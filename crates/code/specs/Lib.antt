@@ -1,0 +1,5 @@
+pub mod Code
+pub mod Calls
+pub mod Bytes
+pub mod Reading
+pub mod Claims
