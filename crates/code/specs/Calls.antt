@@ -6,8 +6,8 @@ use Rattle.answers.specs.Answers.{firstOf, afterwards}
 use Rattle.answers.specs.Table.{widthTest, digitsTest, longTest, keyTest, trayTest, wordTest}
 use Rattle.code.specs.Code.{code}
 
--- 01, "1 to 7 in order", with Digits "tested just after Width"; there is no b and no n, so neither Kept nor Count.
--- An accepted call writes a byte for two digits. 0 for an accepted call
+-- the tests in the order of 01's table, Digits between Width and the others; without b and n there is neither Kept nor Count.
+-- An accepted call writes a byte for every two digits. 0 for an accepted call
 unfoldable pub codeAnswer : ℕ → ℕ → List ℕ → List ℕ → List ℕ → ℕ
 codeAnswer w d ms ks out =
     firstOf

@@ -14,11 +14,11 @@ use Rattle.code.specs.Calls.{codeRow}
 unfoldable pub keysThatAgree : ℕ → ℕ → ℕ → List ℕ → List ℕ → ℕ
 keysThatAgree w d t first second = count w (t + 1) (λ ks. sameRow (code w d first ks) (code w d second ks))
 
--- "F being (2^w − 1) div 10^d"
+-- 02's F: how often 10^d goes into the largest word
 unfoldable pub largestQuotient : ℕ → ℕ → ℕ
 largestQuotient w d = (2 ^ w - 1) / 10 ^ d
 
--- "at most (2F + 1)·2^(w·t + 1) of the keys give one code"
+-- how many keys the document allows
 unfoldable pub bound : ℕ → ℕ → ℕ → ℕ
 bound w d t = (2 * largestQuotient w d + 1) * 2 ^ (w * t + 1)
 
