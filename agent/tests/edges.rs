@@ -7,23 +7,12 @@ mod common;
 
 use common::calls::{settings, Call, Digest, Match};
 use common::faults::Faults;
+use common::of_both_digests;
 use common::paper::WIDTHS_OF_BYTES;
 use common::part::Part;
 use common::random::Random;
 use pairing_agent::{digests_match, ffi, Refusal};
 use std::collections::BTreeSet;
-
-/// Makes each edge a test for words and a test for bytes.
-macro_rules! of_both_digests {
-    ($($edge:ident)*) => {
-        mod words {
-            $(#[test] fn $edge() { super::$edge::<u32>(); })*
-        }
-        mod bytes {
-            $(#[test] fn $edge() { super::$edge::<u8>(); })*
-        }
-    };
-}
 
 of_both_digests! {
     width

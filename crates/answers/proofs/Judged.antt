@@ -1,6 +1,6 @@
 -- The first test that holds gives the answer: it stops, or it passes. What a test that passes says of the call.
 use mathlib.Core.Path.{_≡_, refl, sym, ap, subst, _∙_}
-use mathlib.Core.Bool.{Bool, true, false, not, _||_, true≢false}
+use mathlib.Core.Bool.{Bool, true, false, not, _&&_, _||_, cond, true≢false}
 use mathlib.Core.List.{List, [], _∷_}
 use Prim.Native.Nat.{ℕ, suc, _^_, _≤_}
 use native.Mathlib.Omega.{arith}
@@ -9,8 +9,8 @@ use lib.Dec.{ltb, eqb}
 use borrow.Author.Tests.{le-ltb, eq-eqb, ne-eqb, ltb-false, eqb-true, eqb-false, not-true, not-false}
 use Rattle.counts.specs.Digest.{fits}
 use Rattle.counts.specs.Corollaries.{InRange}
-use Rattle.answers.specs.Answers.{Test, test, firstOf, noneOf}
-use Rattle.answers.specs.Table.{badWidth, badByteWidth, badKept, badCount, tooLong, badKey, smallTray, badRows, badWords, badDigits}
+use Rattle.answers.specs.Answers.{Test, test, firstOf, Judges, noneOf}
+use Rattle.answers.specs.Table.{badWidth, badByteWidth, badKept, badCount, tooLong, badKey, smallTray, badRows, badWords, badDigits, wordTest}
 use Rattle.counts.proofs.Fits.{both}
 
 -- r is what the row's function answers, x what the tests after it give
@@ -38,6 +38,23 @@ none-holds a = refl
 
 -- for the search of a function that judges
 pub ruleset judged = (stops, passes, stops-not, passes-not, none-holds)
+
+-- r is what the first tests gave, x the later answer: a refusal stands, else x does
+module _ (ts : List Test) {r : ℕ} (j : Judges ts r) (x : ℕ) where
+  pub refusal-stands : (r ≡ 0 → ⊥) → r ≡ firstOf ts x
+  refusal-stands ne = sym (j x ∙ ap (λ (t : Bool). cond t x r) (ne-eqb r 0 ne))
+
+  pub later-stands : r ≡ 0 → x ≡ firstOf ts x
+  later-stands e = sym (j x ∙ ap (λ (t : Bool). cond t x r) (eq-eqb r 0 e))
+
+-- Word as the last test, by whether the words fit
+pub word-last : (w : ℕ) (ms ks : List ℕ) {fit : Bool} → fit ≡ (fits w ms && fits w ks) → cond fit 0 7 ≡ firstOf (wordTest w ms ks ∷ []) 0
+unfolding firstOf badWords
+word-last w ms ks {fit} e = rw (← e) (go fit)
+  where
+    go : (t : Bool) → _≡_ {A = ℕ} (cond t 0 7) (cond (not t) 7 0)
+    go true = refl
+    go false = refl
 
 -- a test that did not stop an accepted call does not hold
 pub passed : (n : ℕ) (h : Bool) (ts : List Test) → firstOf (test (suc n) h ∷ ts) 0 ≡ 0 → (h ≡ false) × (firstOf ts 0 ≡ 0)

@@ -1,4 +1,5 @@
 -- What a call answers (document 01, below the table of "Numbers the agent sees"), and what a lent row holds after it.
+use mathlib.Core.Path.{_≡_}
 use mathlib.Core.Bool.{Bool, true, not, _&&_, cond}
 use mathlib.Core.List.{List, [], _∷_, _++_}
 use Prim.Native.Nat.{ℕ}
@@ -17,6 +18,10 @@ test number holds = record { number = number; holds = holds }
 unfoldable pub firstOf : List Test → ℕ → ℕ
 firstOf [] accepted = accepted
 firstOf (t ∷ ts) accepted = cond (t .holds) (t .number) (firstOf ts accepted)
+
+-- r is what these tests make of a call that others test later: the number of the first that holds, or 0, and the later answer stands
+abbrev pub Judges : List Test → ℕ → Type 0
+Judges ts r = (later : ℕ) → firstOf ts later ≡ cond (eqb r 0) later r
 
 -- no test of the list holds
 unfoldable pub noneOf : List Test → Bool

@@ -1,6 +1,6 @@
 // What a call answers: the numbers that the agent sees, and a function for each row of their table.
 pub mod decimal;
-mod range;
+pub mod range;
 pub mod table;
 
 // 0 is an accepted call. 10 to 21 belong to later calls.

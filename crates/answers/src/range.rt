@@ -6,7 +6,7 @@ ghost use Rattle.counts.specs.Digest.{fits};
 ghost use Rattle.answers.specs.Range.{joined};
 
 // Whether every word is below 2^w, for every w.
-pub(crate) fn row_fits(w: u32, row: &[u32]) -> bool
+pub fn row_fits(w: u32, row: &[u32]) -> bool
     ensures { λ r. ⌜ r ≡ fits w (now (row .entry)) ⌝ }
 {
     below(w, all_bits(row))
@@ -26,7 +26,7 @@ fn all_bits(words: &[u32]) -> u32
 }
 
 // Whether a word is below 2^w, for every w.
-fn below(w: u32, word: u32) -> bool
+pub fn below(w: u32, word: u32) -> bool
     ensures { λ r. ⌜ r ≡ ltb word (2 ^ w) ⌝ }
 {
     if 32 <= w {

@@ -1,17 +1,18 @@
 -- Words in blocks: all but the last have their bytes in the message, a block's words are the message's, and its sums go on from those before.
 use mathlib.Core.Path.{_≡_, refl, sym, ap, ap₂, subst, _∙_}
+use mathlib.Core.Bool.{Bool, true, false, _&&_}
 use mathlib.Core.List.{List, [], _∷_, _++_}
-use Prim.Native.Nat.{ℕ, suc, _+_, _-_, _*_, _/_, min, _≤_, _<_}
-use native.Mathlib.Nat.{suc-mul, mul-le-mul-right, add-mul}
+use Prim.Native.Nat.{ℕ, zero, suc, _+_, _-_, _*_, _/_, min, _≤_, _<_}
+use native.Mathlib.Nat.{zero-mul, suc-mul, mul-le-mul-right, add-mul}
 use native.Mathlib.Decide.{decLe}
 use native.Mathlib.Omega.{arith}
-use lib.ListN.{length, getD, set, take, drop, replicate, take-append-drop, length-drop, drop-of-length-le}
+use lib.ListN.{length, getD, set, take, drop, length-drop, drop-of-length-le}
 use lib.Seq.{length-take-le, drop-cons, set-at}
 use Rattle.rows.proofs.Parts.{part-to-end}
-use Rattle.sums.specs.Sums.{leafSums}
-use Rattle.counts.proofs.Fits.{fits-parts, fits-zeros}
-use Rattle.sums.proofs.Each.{sums-none, leaf-sums, leaf-append}
-use Rattle.byte_sums.specs.Bytes.{littleEndian, wordsFrom, closed, Size, sumsFrom}
+use Rattle.sums.specs.Sums.{leafSums, leafFit}
+use Rattle.sums.proofs.Summable.{Sums, leaf-fit-append}
+use Rattle.sums.proofs.Each.{leaf-append}
+use Rattle.byte_sums.specs.Bytes.{littleEndian, wordsFrom, closed, Size, sumsFrom, fitFrom}
 use Rattle.byte_sums.proofs.Closing.{closed-length, closed-drop}
 use Rattle.byte_sums.proofs.Words.{full-there, little-filled, words-front, words-length, words-append}
 
@@ -80,21 +81,73 @@ module _ (c t at size : ℕ) (xs row : List ℕ) (there : t * c ≤ length xs + 
       → wordsFrom c (length (take size row)) (closed (take (length xs - at * c) (drop (at * c) xs))) ≡ wordsFrom c size (drop (at * c) (closed xs))
   block-words room = rw (length-take-le size row room, part-to-end (length xs) (at * c) xs refl) (ap (wordsFrom c size) (sym (closed-drop (at * c) xs starts)))
 
--- no words add nothing to zeros
-pub sums-nothing : (w n c : ℕ) (xs ks : List ℕ) → w ≤ 32 → replicate 8 0 ≡ sumsFrom w n c 0 xs ks
-unfolding wordsFrom
-sums-nothing w n c xs ks le =
-    let zeros : List ℕ = replicate 8 0 in
-    let none = sums-none w ks (take n zeros) (fits-parts w n zeros (fits-zeros w 8) .0) in
-    sym (leaf-sums w n le [] ks zeros ∙ ap (λ (l : List ℕ). l ++ drop n zeros) none ∙ take-append-drop n zeros)
+-- the sums and the range test after the first t words; before the first of them the sums are as they were, and no word is read
+unfoldable pub sumsTo : ℕ → ℕ → ℕ → ℕ → List ℕ → List ℕ → List ℕ → List ℕ
+sumsTo w n c zero xs ks sums = sums
+sumsTo w n c (suc t) xs ks sums = sumsFrom w n c (suc t) xs ks sums
 
--- the sums of a part more: its words, under the key from its place on
-pub sums-step : (w n c : ℕ) (xs ks : List ℕ) (at size end : ℕ) (block part sums : List ℕ) → w ≤ 32
-    → at + size ≡ end
-    → block ≡ wordsFrom c size (drop (at * c) (closed xs))
-    → part ≡ drop at ks
-    → sums ≡ sumsFrom w n c at xs ks
-    → leafSums w n block part sums ≡ sumsFrom w n c end xs ks
-sums-step w n c xs ks at size end block part sums le next words keys before =
-    let both = leaf-append w n le (wordsFrom c at (closed xs)) (wordsFrom c size (drop (at * c) (closed xs))) ks (replicate 8 0) in
-    rw (words, keys, before, ← next, ← words-append c at size (closed xs)) (rw (words-length c at (closed xs)) at both)
+unfoldable pub fitTo : ℕ → ℕ → ℕ → ℕ → List ℕ → List ℕ → Bool
+fitTo w n c zero xs ks = true
+fitTo w n c (suc t) xs ks = fitFrom w n c (suc t) xs ks
+
+module _ (w n c t : ℕ) (xs ks : List ℕ) (some : 1 ≤ t) where
+  pub sums-to : (sums : List ℕ) → sumsTo w n c t xs ks sums ≡ sumsFrom w n c t xs ks sums
+  unfolding sumsTo
+  sums-to sums = go t some
+    where
+      go : (t : ℕ) → 1 ≤ t → sumsTo w n c t xs ks sums ≡ sumsFrom w n c t xs ks sums
+      go zero none = absurd (omega arith)
+      go (suc t) some = refl
+
+  pub fit-to : fitTo w n c t xs ks ≡ fitFrom w n c t xs ks
+  unfolding fitTo
+  fit-to = go t some
+    where
+      go : (t : ℕ) → 1 ≤ t → fitTo w n c t xs ks ≡ fitFrom w n c t xs ks
+      go zero none = absurd (omega arith)
+      go (suc t) some = refl
+
+-- a block more: its words, under the key from its place on
+module _ (w n c t : ℕ) (xs ks block part : List ℕ) (can : Sums w n t (length ks)) where
+  reaches : (at size end : ℕ) → at + size ≡ end → end ≤ t → Sums w n (length (wordsFrom c at (closed xs) ++ wordsFrom c size (drop (at * c) (closed xs)))) (length ks)
+  reaches at size end next few =
+      record {
+        some-width = can .some-width;
+        width = can .width;
+        some-words = can .some-words;
+        words = can .words;
+        keys = omega (arith, can .keys, ap length (words-append c at size (closed xs)), words-length c (at + size) (closed xs));
+      }
+
+  pub sums-step : (at size end : ℕ) (sums held : List ℕ) {after : List ℕ} → at + size ≡ end → 1 ≤ size → end ≤ t
+      → block ≡ wordsFrom c size (drop (at * c) (closed xs))
+      → part ≡ drop at ks
+      → held ≡ sumsTo w n c at xs ks sums
+      → after ≡ leafSums w n block part held
+      → after ≡ sumsTo w n c end xs ks sums
+  unfolding sumsTo
+  sums-step zero size end sums held next some few words keys before added =
+      let same : size ≡ end = omega arith in
+      added ∙ rw (words, keys, before, zero-mul c, same) (sym (sums-to w n c end xs ks (omega arith) sums))
+  sums-step (suc at) size end sums held next some few words keys before added =
+      let both = leaf-append w n (wordsFrom c (suc at) (closed xs)) (wordsFrom c size (drop (suc at * c) (closed xs))) ks sums (reaches (suc at) size end next few) in
+      added
+      ∙ rw (words, keys, before) (rw (words-length c (suc at) (closed xs), words-append c (suc at) size (closed xs), next) at both)
+      ∙ sym (sums-to w n c end xs ks (omega arith) sums)
+
+  pub fit-step : (at size end : ℕ) (fit : Bool) {one after : Bool} → at + size ≡ end → 1 ≤ size → end ≤ t
+      → block ≡ wordsFrom c size (drop (at * c) (closed xs))
+      → part ≡ drop at ks
+      → fit ≡ fitTo w n c at xs ks
+      → one ≡ leafFit false w n block part
+      → after ≡ (fit && one)
+      → after ≡ fitTo w n c end xs ks
+  unfolding fitTo
+  fit-step zero size end fit next some few words keys before tested both =
+      let same : size ≡ end = omega arith in
+      both ∙ rw (tested, words, keys, before, zero-mul c, same) (sym (fit-to w n c end xs ks (omega arith)))
+  fit-step (suc at) size end fit next some few words keys before tested both =
+      let all = leaf-fit-append false w n (wordsFrom c (suc at) (closed xs)) (wordsFrom c size (drop (suc at * c) (closed xs))) ks (reaches (suc at) size end next few) in
+      both
+      ∙ rw (tested, words, keys, before) (rw (words-length c (suc at) (closed xs), words-append c (suc at) size (closed xs), next) at all)
+      ∙ sym (fit-to w n c end xs ks (omega arith))

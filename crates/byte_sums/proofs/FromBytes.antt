@@ -1,19 +1,21 @@
 -- A message of bytes at a byte width, and what the code answers at any other.
 use mathlib.Core.Path.{_≡_, refl, sym, ap, subst, _∙_}
-use mathlib.Core.Bool.{true, false}
-use mathlib.Core.List.{List, [], _∷_}
+use mathlib.Core.Bool.{Bool, true, false}
+use mathlib.Core.List.{List}
 use Prim.Native.Nat.{ℕ, zero, suc, _+_, _*_, _/_, _^_, _≤_, _<_}
 use native.Mathlib.Nat.{suc-mul}
 use native.Mathlib.Omega.{arith}
 use lib.Pow.{pow-add}
-use lib.ListN.{length, getD, drop, replicate}
+use lib.ListN.{length, drop}
 use lib.Seq.{getD-drop}
 use borrow.Author.Tests.{lt-ltb}
 use Rattle.counts.specs.Digest.{fits}
 use Rattle.answers.specs.Table.{badByteWidth}
 use Rattle.answers.proofs.Judged.{byte-width-passed}
-use Rattle.sums.specs.Sums.{leafSums}
-use Rattle.byte_sums.specs.Bytes.{littleEndian, wordsFrom, countOf, inWords, closed, wordsOf, wordsIn, Size, sumsFrom, leafBytes}
+use Rattle.sums.specs.Sums.{summable, leafSums, leafFit}
+use Rattle.sums.proofs.Summable.{leaf-unfit}
+use Rattle.sums.proofs.Each.{leaf-still}
+use Rattle.byte_sums.specs.Bytes.{littleEndian, wordsFrom, countOf, inWords, closed, wordsOf, wordsIn, Size, sumsFrom, fitFrom, leafBytes, leafBytesFit}
 use Rattle.byte_sums.specs.Closed.{Bytes}
 use Rattle.byte_sums.proofs.Closing.{closed-length, closed-small}
 use Rattle.byte_sums.proofs.Words.{words-length, count-closed}
@@ -48,9 +50,9 @@ module _ (w : ℕ) (bad : badByteWidth w ≡ true) where
   unfolding wordsIn
   words-elsewhere xs = rw bad
 
-  pub sums-elsewhere : (n : ℕ) (xs ks : List ℕ) → leafBytes w n xs ks ≡ replicate 8 0
-  unfolding leafBytes
-  sums-elsewhere n xs ks = rw bad
+  pub sums-elsewhere : (n : ℕ) (xs ks sums : List ℕ) → (false ≡ leafBytesFit w n xs ks) × (sums ≡ leafBytes w n xs ks sums)
+  unfolding leafBytes leafBytesFit
+  sums-elsewhere n xs ks sums = rw bad (refl, refl)
 
 -- at a byte width: the words of a message, their number, that they fit, and their sums
 module _ (w : ℕ) (xs : List ℕ) (good : badByteWidth w ≡ false) where
@@ -74,9 +76,25 @@ module _ (w : ℕ) (xs : List ℕ) (good : badByteWidth w ≡ false) where
       (byte-width w good .0)
       (words-small (w / 8) (countOf (w / 8) (length (closed xs))) (closed xs) (closed-small xs h))
 
-  pub leaf-bytes : (n : ℕ) (ks : List ℕ) → leafBytes w n xs ks ≡ leafSums w n (wordsOf w xs) ks (replicate 8 0)
+  pub leaf-bytes : (n : ℕ) (ks sums : List ℕ) → leafBytes w n xs ks sums ≡ leafSums w n (wordsOf w xs) ks sums
   unfolding leafBytes
-  leaf-bytes n ks = rw good
+  leaf-bytes n ks sums = rw good
 
-  pub sums-whole : (n full : ℕ) (ks : List ℕ) → full ≡ length xs / (w / 8) → sumsFrom w n (w / 8) (full + 1) xs ks ≡ leafBytes w n xs ks
-  sums-whole n full ks is = ap (λ (q : ℕ). sumsFrom w n (w / 8) (q + 1) xs ks) is ∙ ap (λ (l : List ℕ). leafSums w n l ks (replicate 8 0)) (sym words-of) ∙ sym (leaf-bytes n ks)
+  pub leaf-bytes-fit : (n : ℕ) (ks : List ℕ) → leafBytesFit w n xs ks ≡ leafFit false w n (wordsOf w xs) ks
+  unfolding leafBytesFit
+  leaf-bytes-fit n ks = rw good
+
+  -- the code counts the full words and one more: these are the words that it sums, or it sums none
+  module _ (full : ℕ) (is : full ≡ length xs / (w / 8)) (n : ℕ) (ks sums : List ℕ) where
+    pub bytes-none : summable w n (full + 1) (length ks) ≡ false → (false ≡ leafBytesFit w n xs ks) × (sums ≡ leafBytes w n xs ks sums)
+    bytes-none e =
+        let count : length (wordsOf w xs) ≡ full + 1 = words-count ∙ ap (λ (q : ℕ). q + 1) (sym is) in
+        let none = ap (λ (t : ℕ). summable w n t (length ks)) count ∙ e in
+        (leaf-unfit false w n (wordsOf w xs) ks none ∙ sym (leaf-bytes-fit n ks), leaf-still w n (wordsOf w xs) ks sums none ∙ sym (leaf-bytes n ks sums))
+
+    pub bytes-whole : (t : ℕ) {fit : Bool} {after : List ℕ} → t ≡ full + 1
+        → (fit ≡ fitFrom w n (w / 8) t xs ks) × (after ≡ sumsFrom w n (w / 8) t xs ks sums)
+        → (fit ≡ leafBytesFit w n xs ks) × (after ≡ leafBytes w n xs ks sums)
+    bytes-whole t e h =
+        let words : wordsFrom (w / 8) t (closed xs) ≡ wordsOf w xs = ap (λ (m : ℕ). wordsFrom (w / 8) m (closed xs)) (e ∙ ap (λ (q : ℕ). q + 1) is) ∙ sym words-of in
+        (h .0 ∙ ap (λ (l : List ℕ). leafFit false w n l ks) words ∙ sym (leaf-bytes-fit n ks), h .1 ∙ ap (λ (l : List ℕ). leafSums w n l ks sums) words ∙ sym (leaf-bytes n ks sums))

@@ -1,11 +1,11 @@
 -- A message of bytes as words (document 01, "Bytes"; closed as document 02, "One", says). A word of width 8, 16 or 32 has 1, 2 or 4 bytes.
-use mathlib.Core.Bool.{cond}
+use mathlib.Core.Bool.{Bool, false, not, _&&_, cond}
 use mathlib.Core.Logic.{_≢_}
 use mathlib.Core.List.{List, [], _∷_, _++_}
 use Prim.Native.Nat.{ℕ, zero, suc, _+_, _*_, _-_, _/_, _≤_}
-use lib.ListN.{length, getD, drop, replicate}
+use lib.ListN.{length, getD, drop}
 use Rattle.answers.specs.Table.{badByteWidth}
-use Rattle.sums.specs.Sums.{leafSums}
+use Rattle.sums.specs.Sums.{leafSums, leafFit}
 
 -- 01, "Bytes": "the first byte lowest": the number of the first c bytes. A byte past the end counts as 0, so that a last word is filled up with zero bytes
 unfoldable pub littleEndian : ℕ → List ℕ → ℕ
@@ -41,10 +41,18 @@ wordsIn w xs = cond (badByteWidth w) 0 (length (wordsOf w xs))
 abbrev pub Size : ℕ → Type 0
 Size c = (1 ≤ c) × (c ≤ 4) × (c ≢ 3)
 
--- the first t words of c bytes of the closed message, summed from zero
-abbrev pub sumsFrom : ℕ → ℕ → ℕ → ℕ → List ℕ → List ℕ → List ℕ
-sumsFrom w n c t xs ks = leafSums w n (wordsFrom c t (closed xs)) ks (replicate 8 0)
+-- 01, "Bytes": the first t words of c bytes of the closed message, added to sums
+abbrev pub sumsFrom : ℕ → ℕ → ℕ → ℕ → List ℕ → List ℕ → List ℕ → List ℕ
+sumsFrom w n c t xs ks sums = leafSums w n (wordsFrom c t (closed xs)) ks sums
 
--- what the code's n sums of bytes are: those of the words at a byte width, and zeros at any other
-unfoldable pub leafBytes : ℕ → ℕ → List ℕ → List ℕ → List ℕ
-leafBytes w n xs ks = cond (badByteWidth w) (replicate 8 0) (leafSums w n (wordsOf w xs) ks (replicate 8 0))
+-- 02, "Three": whether the key's words that they read fit
+abbrev pub fitFrom : ℕ → ℕ → ℕ → ℕ → List ℕ → List ℕ → Bool
+fitFrom w n c t xs ks = leafFit false w n (wordsFrom c t (closed xs)) ks
+
+-- 01, "Bytes": what the code's n sums of bytes are: those of the words at a byte width, and at any other as they were
+unfoldable pub leafBytes : ℕ → ℕ → List ℕ → List ℕ → List ℕ → List ℕ
+leafBytes w n xs ks sums = cond (badByteWidth w) sums (leafSums w n (wordsOf w xs) ks sums)
+
+-- 02, "Three": whether the words that they read fit; no words are read at another width
+unfoldable pub leafBytesFit : ℕ → ℕ → List ℕ → List ℕ → Bool
+leafBytesFit w n xs ks = not (badByteWidth w) && leafFit false w n (wordsOf w xs) ks

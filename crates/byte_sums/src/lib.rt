@@ -1,29 +1,37 @@
 // The sums of a message of bytes: the words of the closed message are decoded block by block, and each block is summed as words are.
 ghost use mathlib.Core.Path.{_≡_};
+ghost use mathlib.Core.Bool.{true, _&&_};
 ghost use Prim.Native.Nat.{_+_, _*_, _/_, _≤_, _<_};
 ghost use lib.ListN.{length, getD, drop};
-ghost use Rattle.sums.specs.Sums.{leafSums};
-ghost use Rattle.byte_sums.specs.Bytes.{littleEndian, wordsFrom, closed, wordsIn, Size, sumsFrom, leafBytes};
+ghost use Rattle.sums.specs.Sums.{summable};
+ghost use Rattle.byte_sums.specs.Bytes.{littleEndian, wordsFrom, closed, wordsIn, Size, sumsFrom, fitFrom, leafBytes, leafBytesFit};
 
-// The n sums of the words that the bytes make, at widths 8, 16 and 32; zeros at any other.
-// Key words past the key's end count as 0. A short message is one block, in a row that costs less to make.
-pub fn sums_of_bytes(w: u32, n: usize, message: &[u8], key: &[u32]) -> [u32; 8]
-    ensures { λ r. ⌜ r ≡ leafBytes w n (now (message .entry)) (now (key .entry)) ⌝ }
+// Adds to the first n of the sums what the words that the bytes make add, at widths 8, 16 and 32, and answers whether the
+// key's words that it reads fit. At any other width, and where the settings or the key do not suffice, it adds nothing and
+// answers false. A short message is one block, in a row that costs less to make.
+pub fn sums_of_bytes(w: u32, n: u32, message: &[u8], key: &[u32], sums: &mut [u32]) -> bool
+    ensures { λ r. ⌜
+        (r ≡ leafBytesFit w n (now (message .entry)) (now (key .entry)))
+        × (now (sums .exit) ≡ leafBytes w n (now (message .entry)) (now (key .entry)) (now (sums .entry)))
+        ⌝ }
 {
     if answers::table::bad_byte_width(w) {
-        return [0; 8];
+        return false;
     }
     let c = (w / 8) as usize;
     let t = full_words(c, message.len()) + 1;
+    if !sums::can_sum(w, n, t, key.len()) {
+        return false;
+    }
     if t <= 64 {
         let mut row = [0u32; 64];
-        return sum_block(w, c, n, message, key, &mut row[..t], [0; 8]);
+        return sum_block(w, c, n, message, key, &mut row[..t], sums);
     }
     if t <= 256 {
         let mut row = [0u32; 256];
-        return sum_block(w, c, n, message, key, &mut row[..t], [0; 8]);
+        return sum_block(w, c, n, message, key, &mut row[..t], sums);
     }
-    sum_blocks(w, c, n, t, message, key)
+    sum_blocks(w, c, n, t, message, key, sums)
 }
 
 // How many words of a byte width the bytes make; 0 at any other width.
@@ -51,49 +59,72 @@ fn full_words(c: usize, bytes: usize) -> usize
     bytes / 4
 }
 
-// The sums of t words, a block of at most 512 at a time.
-fn sum_blocks(w: u32, c: usize, n: usize, t: usize, message: &[u8], key: &[u32]) -> [u32; 8]
-    requires { ⌜ (w ≤ 32) × Size c × (t * c ≤ length (now message) + c) ⌝ }
-    ensures { λ r. ⌜ r ≡ sumsFrom w n c t (now (message .entry)) (now (key .entry)) ⌝ }
+// The sums with t words, a block of at most 1024 at a time, and whether all that they read fits.
+fn sum_blocks(
+    w: u32,
+    c: usize,
+    n: u32,
+    t: usize,
+    message: &[u8],
+    key: &[u32],
+    sums: &mut [u32],
+) -> bool
+    requires { ⌜ (summable w n t (length (now key)) ≡ true) × (1 ≤ t) × Size c × (t * c ≤ length (now message) + c) ⌝ }
+    ensures { λ r. ⌜
+        (r ≡ fitFrom w n c t (now (message .entry)) (now (key .entry)))
+        × (now (sums .exit) ≡ sumsFrom w n c t (now (message .entry)) (now (key .entry)) (now (sums .entry)))
+        ⌝ }
 {
-    let mut row = [0u32; 512];
-    let mut sums = [0u32; 8];
+    let mut row = [0u32; 1024];
+    let mut fit = true;
     let mut at = 0;
     while at < t {
-        let end = rows::lesser(t, at + 512);
+        let end = rows::lesser(t, at + 1024);
         let size = end - at;
         let start = at * c;
-        let from = rows::lesser(at, key.len());
-        let added = sum_block(
+        let block = sum_block(
             w,
             c,
             n,
             &message[start..],
-            &key[from..],
+            &key[at..],
             &mut row[..size],
             sums,
         );
-        sums = added;
+        fit = both(fit, block);
         at = end;
     }
-    sums
+    fit
 }
 
-// The sums with as many words as the row has places, into which they are decoded.
+// A function, so that no branches meet in the loop.
+fn both(a: bool, b: bool) -> bool
+    ensures { λ r. ⌜ r ≡ (a && b) ⌝ }
+{
+    if a {
+        return b;
+    }
+    false
+}
+
+// The sums with as many words as the row has places, into which they are decoded. Words of bytes fit, and are not tested.
 fn sum_block(
     w: u32,
     c: usize,
-    n: usize,
+    n: u32,
     bytes: &[u8],
     key: &[u32],
     row: &mut [u32],
-    sums: [u32; 8],
-) -> [u32; 8]
+    sums: &mut [u32],
+) -> bool
     requires { ⌜ Size c × (length (now row) * c ≤ length (now bytes) + c) ⌝ }
-    ensures { λ r. ⌜ r ≡ leafSums w n (wordsFrom c (length (now (row .entry))) (closed (now (bytes .entry)))) (now (key .entry)) sums ⌝ }
+    ensures { λ r. ⌜
+        (r ≡ fitFrom w n c (length (now (row .entry))) (now (bytes .entry)) (now (key .entry)))
+        × (now (sums .exit) ≡ sumsFrom w n c (length (now (row .entry))) (now (bytes .entry)) (now (key .entry)) (now (sums .entry)))
+        ⌝ }
 {
     decode(c, bytes, row);
-    sums::many::add_sums(w, n, row, key, sums)
+    word_sums::add_sums(w, n, false, row, key, sums)
 }
 
 // As many words as the row has places. Only the last of them can lack bytes of the message; it then has the closing byte.

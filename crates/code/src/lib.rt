@@ -3,7 +3,9 @@ ghost use mathlib.Core.Path.{_≡_};
 ghost use mathlib.Core.List.{_++_};
 ghost use Prim.Native.Nat.{_+_, _/_, _≤_};
 ghost use lib.ListN.{length, drop};
+ghost use Rattle.answers.specs.Answers.{Judges};
 ghost use Rattle.code.specs.Calls.{codeAnswer, codeRow};
+ghost use Rattle.code.specs.Shape.{codeShape};
 ghost use Rattle.code.specs.Bytes.{lastByte, lastBytes};
 use answers::decimal;
 use answers::table;
@@ -20,14 +22,18 @@ pub fn digest_code(w: u32, d: u32, message: &[u32], key: &[u32], out: &mut [u8])
     if answer != 0 {
         return answer;
     }
-    let number = (sums::one_word(w, message, key) as u64) % decimal::power_of_ten(d);
+    let mut sums = [0u32; 8];
+    if !word_sums::add_sums(w, 1, true, message, key, &mut sums) {
+        return answers::WORD;
+    }
+    let number = (sums[0] as u64) % decimal::power_of_ten(d);
     write_digits(number, bytes_of(d), out);
     0
 }
 
-// The first test that refuses the call, else 0.
+// The first test that refuses the call, else 0; all but Word, which the walk makes.
 fn judge(w: u32, d: u32, message: &[u32], key: &[u32], out: &[u8]) -> u32
-    ensures { λ r. ⌜ r ≡ codeAnswer w d (now (message .entry)) (now (key .entry)) (now (out .entry)) ⌝ }
+    ensures { λ r. ⌜ Judges (codeShape w d (now (message .entry)) (now (key .entry)) (now (out .entry))) r ⌝ }
 {
     if table::bad_width(w) {
         return answers::WIDTH;
@@ -43,9 +49,6 @@ fn judge(w: u32, d: u32, message: &[u32], key: &[u32], out: &[u8]) -> u32
     }
     if table::small_tray(bytes_of(d), out.len()) {
         return answers::TRAY;
-    }
-    if table::bad_words(w, message, key) {
-        return answers::WORD;
     }
     0
 }

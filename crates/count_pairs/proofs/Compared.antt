@@ -1,16 +1,16 @@
 -- What an end compares, the digest or a code of one or two digits, is one word or one byte; and the bound on the code's count.
-use mathlib.Core.Path.{_≡_, refl, _∙_}
+use mathlib.Core.Path.{_≡_, refl, ap, _∙_}
 use mathlib.Core.Bool.{false}
 use mathlib.Core.List.{List, [], _∷_, _++_}
 use Prim.Native.Nat.{ℕ, zero, suc, min, _+_, _*_, _/_, _%_, _^_, _≤_, _<_}
-use native.Mathlib.Nat.{mod-mod}
+use native.Mathlib.Nat.{zero-add, mod-mod}
 use native.Mathlib.Omega.{arith}
 use borrow.Author.Tests.{lt-ltb}
-use lib.ListN.{length, getD, drop}
-use Rattle.counts.specs.Digest.{fits, oneWord, fullWords, kept, digest}
-use Rattle.sums.specs.Leaf.{leafWord, orZero}
+use lib.ListN.{length, getD, drop, replicate}
+use Rattle.counts.specs.Digest.{fits, wholeSum, oneWord, fullWords, kept, digest}
+use Rattle.sums.specs.Sums.{addSums, summable, leafSums}
 use Rattle.answers.specs.Answers.{firstOf}
-use Rattle.answers.specs.Table.{badWidth, badDigits, badWords}
+use Rattle.answers.specs.Table.{badWidth, badCount, badDigits, badWords}
 use Rattle.answers.proofs.Judged.{words-pass}
 use Rattle.answers.proofs.Rows.{accepted-row}
 use Rattle.code.specs.Code.{code}
@@ -21,15 +21,19 @@ use Rattle.code.proofs.Reading.{code-length}
 use Rattle.count_pairs.specs.Agree.{compared, boundOf, keyAt}
 use Rattle.count_pairs.specs.Table.{ValueOf}
 
--- the digest's word
-module _ {x : ℕ} (m key : ℕ) (word : x ≡ leafWord 7 (m ∷ []) (keyAt key)) where
-  pub digest-value : (d : ℕ) → d ≡ 0 → ValueOf d m key x
-  unfolding compared digest fullWords kept oneWord leafWord orZero
-  digest-value d e = rw (e, word) (simp mod-mod)
+-- the digest's word, the first of the sums
+module _ {sums : List ℕ} (m key : ℕ) (added : sums ≡ leafSums 7 1 (m ∷ []) (keyAt key) (replicate 8 0)) where
+  first-sum : getD sums 0 0 ≡ oneWord 7 (m ∷ []) (keyAt key)
+  unfolding leafSums addSums summable badWidth badCount oneWord
+  first-sum = ap (λ (l : List ℕ). getD l 0 0) added ∙ ap (λ (x : ℕ). x % 128) (zero-add (wholeSum 7 (m ∷ []) (keyAt key)))
 
-  pub digest-small : x < 128
-  unfolding oneWord leafWord orZero
-  digest-small = omega arith
+  pub digest-value : (d : ℕ) → d ≡ 0 → ValueOf d m key (getD sums 0 0)
+  unfolding compared digest fullWords kept oneWord
+  digest-value d e = rw (e, first-sum) (simp mod-mod)
+
+  pub digest-small : getD sums 0 0 < 128
+  unfolding oneWord
+  digest-small = omega (arith, first-sum)
 
 compared-code : (d : ℕ) (ms ks : List ℕ) → 1 ≤ d → compared d ms ks ≡ code 7 d ms ks
 unfolding compared

@@ -12,8 +12,7 @@ use lib.ListN.{length, getD, set, length-set}
 use lib.Seq.{getD-set-same, getD-set-other}
 use Rattle.counts.specs.Count.{sumTo, asNumber}
 use Rattle.counts.proofs.Sums.{sum-cong-below}
-use Rattle.sums.specs.Leaf.{orZero}
-use Rattle.count_pairs.specs.Search.{cellAt, Filled, First, standsAt, reaches, Largest}
+use Rattle.count_pairs.specs.Search.{orZero, cellAt, Filled, First, standsAt, reaches, Largest}
 use Rattle.count_pairs.proofs.Laws.{quotient, remainder}
 
 -- a row of n places of which the first i are right

@@ -1,12 +1,16 @@
 -- The largest number of any pair, where each pair has a number. The pairs stand in a row of 128 · 128 places, place i for the messages i / 128 and i % 128.
 use mathlib.Core.Path.{_≡_}
-use mathlib.Core.Bool.{_&&_}
+use mathlib.Core.Bool.{Bool, true, false, _&&_}
 use mathlib.Core.List.{List}
 use Prim.Native.Nat.{ℕ, _+_, _*_, _/_, _%_, _≤_, _<_}
 use lib.Dec.{ltb, eqb}
 use lib.ListN.{getD}
 use Rattle.counts.specs.Count.{sumTo, asNumber}
-use Rattle.sums.specs.Leaf.{orZero}
+
+-- the number where the test holds, else 0
+unfoldable pub orZero : Bool → ℕ → ℕ
+orZero true x = x
+orZero false x = 0
 
 -- the number at a place: 0 where the first message is not below the second, so that each pair has one place
 unfoldable pub cellAt : (ℕ → ℕ → ℕ) → ℕ → ℕ

@@ -22,7 +22,9 @@ fn value(d: u32, m: u32, key: u32) -> u8
     let message = [m];
     let words = [key / 128, key % 128];
     if d == 0 {
-        return sums::one_word(7, &message, &words) as u8;
+        let mut sums = [0u32; 8];
+        word_sums::add_sums(7, 1, true, &message, &words, &mut sums);
+        return sums[0] as u8;
     }
     let mut out = [0u8];
     code::digest_code(7, d, &message, &words, &mut out);

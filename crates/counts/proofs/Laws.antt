@@ -1,11 +1,9 @@
 -- Laws of the sum before reduction, for every width and every two rows.
 use mathlib.Core.Path.{_≡_, refl, ap, sym, _∙_}
 use mathlib.Core.List.{List, [], _∷_, _++_}
-use Prim.Native.Nat.{ℕ, zero, suc, _+_, _*_, _/_, _^_, _<_}
-use native.Mathlib.Nat.{zero-add, add-zero, add-assoc, mul-zero, zero-div, le-of-lt}
-use native.Mathlib.Omega.{arith}
-use lib.ListN.{length, getD, take, drop, drop-of-length-le}
-use lib.Seq.{split-at, drop-cons, length-take-le}
+use Prim.Native.Nat.{ℕ, zero, suc, _+_, _*_, _/_, _^_}
+use native.Mathlib.Nat.{zero-add, add-assoc}
+use lib.ListN.{length, getD, take, drop}
 use Rattle.counts.specs.Digest.{wholeSum}
 
 -- one more message word in front
@@ -33,22 +31,3 @@ sum-reads w [] ks = refl
 sum-reads w (m ∷ ms) [] = refl
 sum-reads w (m ∷ ms) (k ∷ []) = refl
 sum-reads w (m ∷ ms) (k ∷ k' ∷ ks) = ap (λ (s : ℕ). m * k + m * k' / 2 ^ w + s) (sum-reads w ms (k' ∷ ks))
-
--- over no key words every message sums to 0
-pub sum-none : (w : ℕ) (ms : List ℕ) → wholeSum w ms [] ≡ 0
-unfolding wholeSum
-sum-none w [] = refl
-sum-none w (m ∷ ms) = simp (mul-zero, zero-div, sum-none w ms)
-
--- where the last key word is at n, the word at n is the last to count, and has no next key word
-pub sum-short : (w n : ℕ) (ms ks : List ℕ) → length ks ≡ suc n → n < length ms → wholeSum w ms ks ≡ wholeSum w (take n ms) ks + getD ms n 0 * getD ks n 0
-sum-short w n ms ks hk hm =
-    ap (λ (l : List ℕ). wholeSum w l ks) (split-at ms n 0 hm)
-    ∙ sum-append w (take n ms) (getD ms n 0 ∷ drop (suc n) ms) ks
-    ∙ ap (λ (s : ℕ). wholeSum w (take n ms) ks + s) last
-  where
-    rest : drop (length (take n ms)) ks ≡ getD ks n 0 ∷ []
-    rest = rw (length-take-le n ms (le-of-lt hm), drop-cons ks n 0 (omega arith), drop-of-length-le ks {i = suc n} (omega arith))
-
-    last : wholeSum w (getD ms n 0 ∷ drop (suc n) ms) (drop (length (take n ms)) ks) ≡ getD ms n 0 * getD ks n 0
-    last = rw rest (simp (sum-cons, sum-none, mul-zero, zero-div, add-zero))

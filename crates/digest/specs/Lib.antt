@@ -1,3 +1,4 @@
 pub mod Words
 pub mod Bytes
+pub mod Shape
 pub mod Match

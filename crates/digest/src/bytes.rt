@@ -1,6 +1,8 @@
 // The digest of bytes.
 ghost use mathlib.Core.Path.{_≡_};
+ghost use Rattle.answers.specs.Answers.{Judges};
 ghost use Rattle.digest.specs.Bytes.{bytesAnswer, bytesRow};
+ghost use Rattle.digest.specs.Shape.{bytesShape};
 use answers::table;
 
 // The digest of the bytes' words under the key into the first n places of out, or the number of the first test that refuses it.
@@ -14,15 +16,18 @@ pub fn digest_bytes(w: u32, b: u32, n: u32, message: &[u8], key: &[u32], out: &m
     if answer != 0 {
         return answer;
     }
-    let words = n as usize;
-    let sums = byte_sums::sums_of_bytes(w, words, message, key);
-    sums::many::write_kept(b, words, sums, out);
+    let mut sums = [0u32; 8];
+    if !byte_sums::sums_of_bytes(w, n, message, key, &mut sums) {
+        return answers::WORD;
+    }
+    sums::write_kept(b, n as usize, sums, out);
     0
 }
 
-// The first test that refuses the call, else 0. The words of bytes always fit, so the last test looks at the key alone.
+// The first of tests 1 to 6 that refuses the call, else 0. Test 7, Word, is made as the words are summed: of the key alone,
+// since the words of bytes always fit.
 fn judge(w: u32, b: u32, n: u32, message: &[u8], key: &[u32], out: &[u32]) -> u32
-    ensures { λ r. ⌜ r ≡ bytesAnswer w b n (now (message .entry)) (now (key .entry)) (now (out .entry)) ⌝ }
+    ensures { λ r. ⌜ Judges (bytesShape w b n (now (message .entry)) (now (key .entry)) (now (out .entry))) r ⌝ }
 {
     let words = n as usize;
     let t = byte_sums::words_in(w, message);
@@ -43,13 +48,6 @@ fn judge(w: u32, b: u32, n: u32, message: &[u8], key: &[u32], out: &[u32]) -> u3
     }
     if table::small_tray(words, out.len()) {
         return answers::TRAY;
-    }
-    // Every word is below 2^32.
-    if w == 32 {
-        return 0;
-    }
-    if table::bad_words(w, &key[..0], key) {
-        return answers::WORD;
     }
     0
 }

@@ -1,6 +1,8 @@
 // The digest of words.
 ghost use mathlib.Core.Path.{_≡_};
+ghost use Rattle.answers.specs.Answers.{Judges};
 ghost use Rattle.digest.specs.Words.{digestAnswer, digestRow};
+ghost use Rattle.digest.specs.Shape.{wordsShape};
 use answers::table;
 
 // The digest of the message under the key into the first n places of out, or the number of the first test that refuses it.
@@ -14,16 +16,17 @@ pub fn digest_words(w: u32, b: u32, n: u32, message: &[u32], key: &[u32], out: &
     if answer != 0 {
         return answer;
     }
-    let words = n as usize;
-    let zeros = [0u32; 8];
-    let sums = sums::many::add_sums(w, words, message, key, zeros);
-    sums::many::write_kept(b, words, sums, out);
+    let mut sums = [0u32; 8];
+    if !word_sums::add_sums(w, n, true, message, key, &mut sums) {
+        return answers::WORD;
+    }
+    sums::write_kept(b, n as usize, sums, out);
     0
 }
 
-// The first test that refuses the call, else 0.
+// The first of tests 1 to 6 that refuses the call, else 0. Test 7, Word, is made as the words are summed.
 fn judge(w: u32, b: u32, n: u32, message: &[u32], key: &[u32], out: &[u32]) -> u32
-    ensures { λ r. ⌜ r ≡ digestAnswer w b n (now (message .entry)) (now (key .entry)) (now (out .entry)) ⌝ }
+    ensures { λ r. ⌜ Judges (wordsShape w b n (now (message .entry)) (now (key .entry)) (now (out .entry))) r ⌝ }
 {
     let words = n as usize;
     if table::bad_width(w) {
@@ -43,9 +46,6 @@ fn judge(w: u32, b: u32, n: u32, message: &[u32], key: &[u32], out: &[u32]) -> u
     }
     if table::small_tray(words, out.len()) {
         return answers::TRAY;
-    }
-    if table::bad_words(w, message, key) {
-        return answers::WORD;
     }
     0
 }

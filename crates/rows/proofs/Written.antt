@@ -3,11 +3,11 @@ use mathlib.Core.Path.{_≡_, refl, sym, ap, ap₂, _∙_}
 use mathlib.Core.List.{List, [], _∷_, _++_, append-nil}
 use Prim.Native.Nat.{ℕ, zero, suc, _+_, min, _≤_, _<_}
 use native.Mathlib.Numerals.{add-one}
-use native.Mathlib.Nat.{le-of-eq}
-use native.Mathlib.Decide.{decLe}
+use native.Mathlib.Nat.{le-of-eq, add-zero}
+use native.Mathlib.Decide.{decLe, decLt}
 use native.Mathlib.Omega.{arith}
 use lib.ListN.{length, getD, set, take, drop, length-append, length-drop, drop-of-length-le}
-use lib.Seq.{drop-cons, set-at, append-snoc, take-suc, take-all}
+use lib.Seq.{drop-cons, set-at, append-snoc, take-suc, take-all, getD-at, getD-drop, getD-append-add}
 use Rattle.rows.specs.Written.{table, written, over}
 
 pub length-table : (f : ℕ → ℕ) (n : ℕ) → length (table f n) ≡ n
@@ -52,6 +52,34 @@ module _ (f : ℕ → ℕ) (old : List ℕ) where
 
   pub written-all : (i : ℕ) → length old ≡ i → written f i old ≡ table f i
   written-all i e = rw (drop-of-length-le old {i = i} (omega arith)) (append-nil (table f i))
+
+  -- the place that comes next holds what it held
+  pub written-here : (row : List ℕ) (i : ℕ) → row ≡ written f i old → getD row i 0 ≡ getD old i 0
+  written-here row i h =
+      let here : length (table f i) + 0 ≡ i = add-zero _ ∙ length-table f i in
+      ap (λ (l : List ℕ). getD l i 0) h
+      ∙ ap (getD′ (written f i old)) (sym here)
+      ∙ getD-append-add (table f i) (drop i old) 0 0
+      ∙ getD-drop i old 0 0
+      ∙ ap (getD′ old) (add-zero i)
+    where
+      getD′ : List ℕ → ℕ → ℕ
+      getD′ l j = getD l j 0
+
+-- a written place holds its word
+before-last : (f : ℕ → ℕ) (n i : ℕ) (rest : List ℕ) → i < suc n → (i < n → getD (table f n ++ (f n ∷ rest)) i 0 ≡ f i) → getD (table f n ++ (f n ∷ rest)) i 0 ≡ f i
+before-last f n i rest lt earlier = go (decLt i n)
+  where
+    go : Dec (i < n) → getD (table f n ++ (f n ∷ rest)) i 0 ≡ f i
+    go (yes l) = earlier l
+    go (no l) = let last : n ≡ i = omega arith in getD-at (table f n) (f n) rest 0 i (length-table f n ∙ last) ∙ ap f last
+
+pub table-at : (f : ℕ → ℕ) (n i : ℕ) (rest : List ℕ) → i < n → getD (table f n ++ rest) i 0 ≡ f i
+unfolding table
+table-at f zero i rest lt = absurd (omega arith)
+table-at f (suc n) i rest lt =
+    ap (λ (l : List ℕ). getD l i 0) (append-snoc (table f n) (f n) rest)
+    ∙ before-last f n i rest lt (λ l. table-at f n i (f n ∷ rest) l)
 
 -- words that all have a place
 pub over-fits : (words old : List ℕ) → length words ≤ length old → over words old ≡ words ++ drop (length words) old

@@ -1,7 +1,8 @@
 -- The held key words and the pushed ones: how they are joined, what the sums over the joint row give, and the last n of them.
 use mathlib.Core.Path.{_≡_, refl, sym, ap, ap₂, _∙_}
+use mathlib.Core.Bool.{Bool, true, false}
 use mathlib.Core.List.{List, [], _++_, append-assoc, append-nil}
-use Prim.Native.Nat.{ℕ, _+_, _-_, min, _≤_}
+use Prim.Native.Nat.{ℕ, _+_, _-_, min, _≤_, _<_}
 use native.Mathlib.Decide.{decLe}
 use native.Mathlib.Omega.{arith}
 use lib.ListN.{length, take, drop, length-append, length-take, length-drop, take-append-drop, drop-of-length-le}
@@ -9,8 +10,9 @@ use lib.Seq.{take-at, drop-at, take-all, drop-drop, drop-append-le, drop-append-
 use Rattle.rows.specs.Written.{over}
 use Rattle.rows.proofs.Written.{over-fits}
 use Rattle.rows.proofs.Parts.{part-to-end}
-use Rattle.sums.specs.Sums.{leafSums}
-use Rattle.sums.proofs.Each.{sums-more, sums-still, leaf-same, leaf-append}
+use Rattle.sums.specs.Sums.{addSums, summable, leafSums}
+use Rattle.sums.proofs.Summable.{Sums, sums-are}
+use Rattle.sums.proofs.Each.{sums-more, leaf-still, leaf-sums, leaf-append}
 use Rattle.stream.specs.State.{lastWords}
 
 -- a row whose first n places and then the next ones are written
@@ -59,51 +61,69 @@ module _ (n : ℕ) (held ks : List ℕ) (len : length held ≡ n) where
       ∙ take-at (drop (length ks) (held ++ ks)) after n (ap length (sym last-after) ∙ length-last)
       ∙ sym last-after
 
+-- where a push sums: settings in range, and as many pushed key words as message words after the n held ones
+pub held-sums : (w n : ℕ) (held ms ks : List ℕ) → 1 ≤ w → w ≤ 32 → 1 ≤ n → n ≤ 8 → length held ≡ n → length ms ≡ length ks → Sums w n (length ms) (length (held ++ ks))
+held-sums w n held ms ks some narrow one few len same =
+    record { some-width = some; width = narrow; some-words = one; words = few; keys = omega (arith, length-append held ks) }
+
+-- over a key of fewer than n words the code adds nothing
+cannot-sum : (w n t k : ℕ) → k < n → summable w n t k ≡ false
+cannot-sum w n t k short = go (summable w n t k) refl
+  where
+    go : (can : Bool) → summable w n t k ≡ can → can ≡ false
+    go true e = absurd (omega (arith, sums-are w n t k e))
+    go false e = refl
+
 -- the first words of a message over the held key words and as many pushed ones, joined, and the rest over the pushed key
-module _ (w n first : ℕ) (held ms ks : List ℕ) (len : length held ≡ n) (same : length ms ≡ length ks) (most : first ≡ min n (length ks)) where
+module _ (w n first : ℕ) (held ms ks : List ℕ) (len : length held ≡ n) (same : length ms ≡ length ks) (most : first ≡ min n (length ks)) (s : Sums w n (length ms) (length (held ++ ks))) (sums : List ℕ) where
   joined : List ℕ
   joined = held ++ take first ks
 
   taken : length (take first ms) ≡ first
   taken = length-take-le first ms (omega arith)
 
-  -- the first words reach no further than the joined ones
-  joined-reads : (more sums : List ℕ) → leafSums w n (take first ms) (joined ++ more) sums ≡ leafSums w n (take first ms) joined sums
+  joined-length : length joined ≡ n + first
   unfolding joined
-  joined-reads more sums =
-      leaf-same w n (take first ms) (joined ++ more) joined sums
-      (sums-more w (take first ms) joined more (take n sums)
-      (omega (arith, taken, length-append held (take first ks), length-take-le first ks (omega arith), length-take n sums)))
+  joined-length = length-append held (take first ks) ∙ omega (arith, length-take-le first ks (omega arith))
 
-  begun : (joint after sums : List ℕ) → joint ≡ (held ++ take first ks) ++ after → leafSums w n (take first ms) joint sums ≡ leafSums w n (take first ms) (held ++ ks) sums
+  -- the first words reach no further than the joined ones
+  joined-reads : (more : List ℕ) → leafSums w n (take first ms) (joined ++ more) sums ≡ addSums w (take first ms) joined (take n sums) ++ drop n sums
+  joined-reads more =
+      leaf-sums w n (take first ms) (joined ++ more) sums
+      (record { some-width = s .some-width; width = s .width; some-words = s .some-words; words = s .words; keys = omega (arith, taken, joined-length, length-append joined more) })
+      ∙ ap (λ (l : List ℕ). l ++ drop n sums) (sums-more w (take first ms) joined more (take n sums) (omega (arith, taken, joined-length, length-take n sums)))
+
+  begun : (joint after : List ℕ) → joint ≡ (held ++ take first ks) ++ after → leafSums w n (take first ms) joint sums ≡ leafSums w n (take first ms) (held ++ ks) sums
   unfolding joined
-  begun joint after sums e =
+  begun joint after e =
       let over-key : List ℕ → List ℕ = λ (l : List ℕ). leafSums w n (take first ms) l sums in
       ap over-key e
-      ∙ joined-reads after sums
-      ∙ sym (joined-reads (drop first ks) sums)
+      ∙ joined-reads after
+      ∙ sym (joined-reads (drop first ks))
       ∙ ap over-key (append-assoc held (take first ks) (drop first ks) ∙ ap (λ (l : List ℕ). held ++ l) (take-append-drop first ks))
 
-  -- the key after the first words is the pushed one, or there are no later words
-  then-pushed : (sums : List ℕ) → leafSums w n (drop first ms) ks sums ≡ leafSums w n (drop first ms) (drop (length (take first ms)) (held ++ ks)) sums
-  then-pushed sums = go (decLe (length ms) n)
+  -- the key after the first words is the pushed one, or there are no later words and the pushed key is too short to sum over
+  then-pushed : leafSums w n (drop first ms) ks (leafSums w n (take first ms) (held ++ ks) sums) ≡ leafSums w n ms (held ++ ks) sums
+  then-pushed = go (decLe n (length ks))
     where
-      go : Dec (length ms ≤ n) → leafSums w n (drop first ms) ks sums ≡ leafSums w n (drop first ms) (drop (length (take first ms)) (held ++ ks)) sums
-      go (yes few) = rw (drop-of-length-le ms {i = first} (omega arith)) (leaf-same w n [] ks _ sums (sums-still w ks _ (take n sums)))
-      go (no many) =
+      go : Dec (n ≤ length ks) → leafSums w n (drop first ms) ks (leafSums w n (take first ms) (held ++ ks) sums) ≡ leafSums w n ms (held ++ ks) sums
+      go (yes many) =
           let all : length (take first ms) ≡ n = omega (arith, taken) in
-          ap (λ (l : List ℕ). leafSums w n (drop first ms) l sums) (sym (ap (λ (m : ℕ). drop m (held ++ ks)) all ∙ drop-at held ks n len))
+          let after : drop (length (take first ms)) (held ++ ks) ≡ ks = ap (λ (m : ℕ). drop m (held ++ ks)) all ∙ drop-at held ks n len in
+          ap (λ (l : List ℕ). leafSums w n (drop first ms) l (leafSums w n (take first ms) (held ++ ks) sums)) (sym after)
+          ∙ leaf-append w n (take first ms) (drop first ms) (held ++ ks) sums (rw (take-append-drop first ms) s)
+          ∙ ap (λ (l : List ℕ). leafSums w n l (held ++ ks) sums) (take-append-drop first ms)
+      go (no few) =
+          sym (leaf-still w n (drop first ms) ks (leafSums w n (take first ms) (held ++ ks) sums) (cannot-sum w n (length (drop first ms)) (length ks) (omega arith)))
+          ∙ ap (λ (l : List ℕ). leafSums w n l (held ++ ks) sums) (take-all first ms (omega arith))
 
   -- in the parts that the code lends: what it makes of the sums over the joint row, and then of those over the pushed key
-  pub joint-sums : (joint after sums one two : List ℕ)
-      → w ≤ 32
+  pub joint-sums : (joint after one two : List ℕ)
       → joint ≡ (held ++ take first ks) ++ after
       → one ≡ leafSums w n (take first ms) joint sums
       → two ≡ leafSums w n (take (length ms - first) (drop first ms)) ks one
       → two ≡ leafSums w n ms (held ++ ks) sums
-  joint-sums joint after sums one two le e e₁ e₂ =
+  joint-sums joint after one two e e₁ e₂ =
       e₂
-      ∙ ap₂ (λ (rest new : List ℕ). leafSums w n rest ks new) (part-to-end (length ms) first ms refl) (e₁ ∙ begun joint after sums e)
-      ∙ then-pushed (leafSums w n (take first ms) (held ++ ks) sums)
-      ∙ leaf-append w n le (take first ms) (drop first ms) (held ++ ks) sums
-      ∙ ap (λ (l : List ℕ). leafSums w n l (held ++ ks) sums) (take-append-drop first ms)
+      ∙ ap₂ (λ (rest new : List ℕ). leafSums w n rest ks new) (part-to-end (length ms) first ms refl) (e₁ ∙ begun joint after e)
+      ∙ then-pushed

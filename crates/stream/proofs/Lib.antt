@@ -1,5 +1,5 @@
 pub mod Judged
-pub mod Made
 pub mod Joined
+pub mod Made
 pub mod Pushes
 pub mod Cutting

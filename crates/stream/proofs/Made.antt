@@ -1,15 +1,16 @@
 -- The states as the code makes them.
-use mathlib.Core.Path.{_≡_, ap, ap₂, _∙_}
-use mathlib.Core.Bool.{true}
+use mathlib.Core.Path.{_≡_, sym, ap, ap₂, _∙_}
 use mathlib.Core.List.{List, _++_}
-use Prim.Native.Nat.{ℕ, _+_, _≤_}
+use Prim.Native.Nat.{ℕ, _+_}
 use lib.ListN.{length, replicate}
-use Rattle.answers.specs.Table.{fitRow, padded}
+use Rattle.answers.specs.Table.{padded}
 use Rattle.answers.proofs.States.{held-length, row-parts, padded-over}
 use Rattle.sums.specs.Sums.{addSums, leafSums}
 use Rattle.sums.proofs.Each.{length-sums, leaf-sums}
 use Rattle.stream.specs.declared.Stream.{Stream}
 use Rattle.stream.specs.State.{heldKeys, heldSums, lastWords, pushed, opened}
+use Rattle.stream.proofs.Judged.{Takes}
+use Rattle.stream.proofs.Joined.{held-sums}
 
 pub opened-from : (w b n : ℕ) (ks keys : List ℕ) → keys ≡ padded ks
     → _≡_ {A = Stream} (record { width = w; kept = b; n = n; taken = 0; keys = keys; sums = replicate 8 0 }) (opened w b n ks)
@@ -17,19 +18,20 @@ unfolding opened
 opened-from w b n ks keys e = ap {B = Stream} (λ (l : List ℕ). record { width = w; kept = b; n = n; taken = 0; keys = l; sums = replicate 8 0 }) e
 
 pub pushed-from : (s : Stream) (ms ks keys sums : List ℕ)
-    → s .width ≤ 32
-    → s .n ≤ 8
+    → Takes s ms ks
+    → length (s .keys) ≡ 8
     → length (s .sums) ≡ 8
-    → fitRow (s .width) (s .n) (s .sums) ≡ true
     → keys ≡ padded (lastWords (s .n) (heldKeys s ++ ks))
     → sums ≡ leafSums (s .width) (s .n) ms (heldKeys s ++ ks) (s .sums)
     → _≡_ {A = Stream} (record { width = s .width; kept = s .kept; n = s .n; taken = s .taken + length ms; keys = keys; sums = sums }) (pushed s ms ks)
 unfolding pushed
-pushed-from s ms ks keys sums le few eight row ek es =
+pushed-from s ms ks keys sums t keys-eight sums-eight ek es =
+    let r = t .state .settings in
     let added = addSums (s .width) ms (heldKeys s ++ ks) (heldSums s) in
-    let count : length added ≡ s .n = length-sums (s .width) ms (heldKeys s ++ ks) (heldSums s) ∙ held-length (s .n) (s .sums) few eight in
+    let count : length added ≡ s .n = length-sums (s .width) ms (heldKeys s ++ ks) (heldSums s) ∙ held-length (s .n) (s .sums) (r .words) sums-eight in
+    let held : length (heldKeys s) ≡ s .n = held-length (s .n) (s .keys) (r .words) keys-eight in
     ap₂ {C = Stream} (λ (x y : List ℕ). record { width = s .width; kept = s .kept; n = s .n; taken = s .taken + length ms; keys = x; sums = y })
     ek
     (es
-    ∙ leaf-sums (s .width) (s .n) le ms (heldKeys s ++ ks) (s .sums)
-    ∙ padded-over (s .n) added count few (s .sums) eight (row-parts (s .width) (s .n) (s .sums) row .1))
+    ∙ leaf-sums (s .width) (s .n) ms (heldKeys s ++ ks) (s .sums) (held-sums _ _ (heldKeys s) ms ks (r .some-width) (r .width) (r .some-words) (r .words) held (sym (t .words)))
+    ∙ padded-over (s .n) added count (r .words) (s .sums) sums-eight (row-parts (s .width) (s .n) (s .sums) (t .state .sums) .1))

@@ -17,7 +17,7 @@ pub(crate) fn push_fit(s: Stream, message: &[u32], key: &[u32]) -> Stream
     let n = s.n as usize;
     let held = s.keys;
     let before = s.sums;
-    let sums = push_sums(s.width, n, held, before, message, key);
+    let sums = push_sums(s.width, s.n, held, before, message, key);
     let keys = keys::last(n, held, key);
     let words = message.len() as u32;
     let taken = s.taken + words;
@@ -32,20 +32,24 @@ pub(crate) fn push_fit(s: Stream, message: &[u32], key: &[u32]) -> Stream
 }
 
 // The n sums with what the message adds under the held and then the pushed key words. Only its first words reach into
-// the held ones: they are summed over both rows, joined, and all later words straight from the pushed row.
+// the held ones: they are summed over both rows, joined, and all later words straight from the pushed row. The push's
+// judge has tested the words.
 fn push_sums(
     w: u32,
-    n: usize,
+    n: u32,
     held: [u32; 8],
     sums: [u32; 8],
     message: &[u32],
     key: &[u32],
 ) -> [u32; 8]
-    requires { ⌜ (w ≤ 32) × (n ≤ 8) × (length (now message) ≡ length (now key)) ⌝ }
+    requires { ⌜ (1 ≤ w) × (w ≤ 32) × (1 ≤ n) × (n ≤ 8) × (length (now message) ≡ length (now key)) ⌝ }
     ensures { λ r. ⌜ r ≡ leafSums w n (now (message .entry)) (take n held ++ now (key .entry)) sums ⌝ }
 {
-    let first = rows::lesser(n, key.len());
-    let joint = keys::join(n, held, &key[..first]);
-    let begun = sums::many::add_sums(w, n, &message[..first], &joint, sums);
-    sums::many::add_sums(w, n, &message[first..], key, begun)
+    let words = n as usize;
+    let first = rows::lesser(words, key.len());
+    let joint = keys::join(words, held, &key[..first]);
+    let mut added = sums;
+    word_sums::add_sums(w, n, false, &message[..first], &joint, &mut added);
+    word_sums::add_sums(w, n, false, &message[first..], key, &mut added);
+    added
 }

@@ -89,7 +89,7 @@ impl Stream {
             return answer;
         }
         let sums = self.sums;
-        sums::many::write_kept(self.kept, self.n as usize, sums, out);
+        sums::write_kept(self.kept, self.n as usize, sums, out);
         0
     }
 }

@@ -1,13 +1,13 @@
 -- n sums: their number, each of them, a message in two parts, key words that no sum reads, and the words that are kept of them.
 use mathlib.Core.Path.{_≡_, refl, sym, ap, ap₂, _∙_}
-use mathlib.Core.Bool.{true, cond}
+use mathlib.Core.Bool.{true, false}
 use mathlib.Core.List.{List, [], _∷_, _++_, append-nil, map}
 use Prim.Native.Nat.{ℕ, zero, suc, _+_, _%_, _^_, min, _≤_, _<_}
-use native.Mathlib.Nat.{zero-add, add-zero, zero-mod, add-assoc, mod-lt, mod-eq-of-lt, mod-add-mod, add-mod-mod}
+use native.Mathlib.Nat.{zero-add, add-zero, zero-mod, add-assoc, mod-lt, mod-eq-of-lt, mod-add-mod}
 use native.Mathlib.Decide.{decLe}
 use native.Mathlib.Omega.{arith}
-use borrow.Author.Tests.{le-leb, lt-leb, ltb-true, lt-ltb}
-use lib.Dec.{ltb, leb}
+use borrow.Author.Tests.{ltb-true, lt-ltb}
+use lib.Dec.{ltb}
 use lib.Pow.{pow-pos}
 use lib.ListN.{length, getD, take, drop, replicate, length-take, drop-of-length-le, List·getD-map}
 use lib.Seq.{take-append-le, take-at, drop-at, take-all, drop-drop, getD-take}
@@ -17,15 +17,15 @@ use Rattle.rows.proofs.Written.{table-same, table-all, over-fits, over-written}
 use Rattle.counts.specs.Digest.{fits, wholeSum, oneWord, fullWords, kept, digest}
 use Rattle.counts.proofs.Fits.{both}
 use Rattle.counts.proofs.Laws.{sum-append, sum-reads}
-use Rattle.sums.specs.Sums.{addSums, leafSums}
-use Rattle.sums.proofs.Apart.{reduced}
+use Rattle.sums.specs.Sums.{addSums, summable, leafSums}
+use Rattle.sums.proofs.Summable.{Sums, are-sums, first-sums, second-sums}
 
 pub length-sums : (w : ℕ) (ms ks sums : List ℕ) → length (addSums w ms ks sums) ≡ length sums
 unfolding addSums
 length-sums w ms ks [] = refl
 length-sums w ms ks (s ∷ sums) = ap suc (length-sums w ms (drop 1 ks) sums)
 
-drop-swap : (i j : ℕ) (ks : List ℕ) → drop i (drop j ks) ≡ drop j (drop i ks)
+pub drop-swap : (i j : ℕ) (ks : List ℕ) → drop i (drop j ks) ≡ drop j (drop i ks)
 drop-swap i j ks =
     let e : j + i ≡ i + j = omega arith in
     drop-drop i j ks ∙ ap (λ (n : ℕ). drop n ks) e ∙ sym (drop-drop j i ks)
@@ -87,72 +87,58 @@ sums-none w ks (s ∷ sums) h =
     (ap (λ (x : ℕ). x % 2 ^ w) (add-zero s) ∙ mod-eq-of-lt (ltb-true s (2 ^ w) (p .0)))
     (sums-none w (drop 1 ks) sums (p .1))
 
--- no message reads no key
-pub sums-still : (w : ℕ) (ks ks′ sums : List ℕ) → addSums w [] ks sums ≡ addSums w [] ks′ sums
-unfolding addSums wholeSum
-sums-still w ks ks′ [] = refl
-sums-still w ks ks′ (s ∷ sums) = ap (λ (l : List ℕ). (s + 0) % 2 ^ w ∷ l) (sums-still w (drop 1 ks) (drop 1 ks′) sums)
-
--- a sum of full-width words may wrap at 32 bits before it is reduced
-pub add-wrapped : (w sum x : ℕ) → w ≤ 32 → (sum + x % 2 ^ w) % 2 ^ 32 % 2 ^ w ≡ (sum + x) % 2 ^ w
-add-wrapped w sum x le = reduced w 32 (sum + x % 2 ^ w) le ∙ add-mod-mod sum x (2 ^ w)
-
--- the code's n sums, at the widths that words have
-pub leaf-wide-sums : (w n : ℕ) (ms ks sums : List ℕ) → 32 < w → sums ≡ leafSums w n ms ks sums
+-- the code's n sums where it adds nothing
+pub leaf-still : (w n : ℕ) (ms ks sums : List ℕ) → summable w n (length ms) (length ks) ≡ false → sums ≡ leafSums w n ms ks sums
 unfolding leafSums
-leaf-wide-sums w n ms ks sums gt = rw (lt-leb w 32 gt)
+leaf-still w n ms ks sums e = rw e
 
--- keys under which the code's sums agree
-pub leaf-same : (w n : ℕ) (ms ks ks′ sums : List ℕ) → addSums w ms ks (take n sums) ≡ addSums w ms ks′ (take n sums) → leafSums w n ms ks sums ≡ leafSums w n ms ks′ sums
+-- and where it adds
+pub leaf-sums : (w n : ℕ) (ms ks sums : List ℕ) → Sums w n (length ms) (length ks) → leafSums w n ms ks sums ≡ addSums w ms ks (take n sums) ++ drop n sums
 unfolding leafSums
-leaf-same w n ms ks ks′ sums e = ap (λ (l : List ℕ). cond (leb w 32) (l ++ drop n sums) sums) e
+leaf-sums w n ms ks sums s = rw (are-sums w n (length ms) (length ks) s)
 
-module _ (w n : ℕ) (le : w ≤ 32) where
-  pub leaf-sums : (ms ks sums : List ℕ) → leafSums w n ms ks sums ≡ addSums w ms ks (take n sums) ++ drop n sums
-  unfolding leafSums
-  leaf-sums ms ks sums = rw (le-leb w 32 le)
+-- the sums that were added to, and those that were not
+module _ (w n : ℕ) (ms ks sums : List ℕ) where
+  long : length (addSums w ms ks (take n sums)) ≡ min n (length sums)
+  long = length-sums w ms ks (take n sums) ∙ length-take n sums
 
-  -- the sums that were added to, and those that were not
-  module _ (ms ks sums : List ℕ) where
-    long : length (addSums w ms ks (take n sums)) ≡ min n (length sums)
-    long = length-sums w ms ks (take n sums) ∙ length-take n sums
-
-    first : take n (addSums w ms ks (take n sums) ++ drop n sums) ≡ addSums w ms ks (take n sums)
-    first = go (decLe n (length sums)) (addSums w ms ks (take n sums)) long
-      where
-        go : Dec (n ≤ length sums) → (new : List ℕ) → length new ≡ min n (length sums) → take n (new ++ drop n sums) ≡ new
-        go (yes few) new l = take-at new (drop n sums) n (omega arith)
-        go (no many) new l = ap (λ (x : List ℕ). take n (new ++ x)) (drop-of-length-le sums {i = n} (omega arith)) ∙ ap (take n) (append-nil new) ∙ take-all n new (omega arith)
-
-    rest : drop n (addSums w ms ks (take n sums) ++ drop n sums) ≡ drop n sums
-    rest = go (decLe n (length sums)) (addSums w ms ks (take n sums)) long
-      where
-        go : Dec (n ≤ length sums) → (new : List ℕ) → length new ≡ min n (length sums) → drop n (new ++ drop n sums) ≡ drop n sums
-        go (yes few) new l = drop-at new (drop n sums) n (omega arith)
-        go (no many) new l =
-            let none : drop n sums ≡ [] = drop-of-length-le sums {i = n} (omega arith) in
-            ap (λ (x : List ℕ). drop n (new ++ x)) none ∙ ap (drop n) (append-nil new) ∙ drop-of-length-le new {i = n} (omega arith) ∙ sym none
-
-  pub leaf-append : (a b ks sums : List ℕ) → leafSums w n b (drop (length a) ks) (leafSums w n a ks sums) ≡ leafSums w n (a ++ b) ks sums
-  leaf-append a b ks sums =
-      ap (leafSums w n b (drop (length a) ks)) (leaf-sums a ks sums)
-      ∙ leaf-sums b (drop (length a) ks) (addSums w a ks (take n sums) ++ drop n sums)
-      ∙ ap₂ (λ (x y : List ℕ). addSums w b (drop (length a) ks) x ++ y) (first a ks sums) (rest a ks sums)
-      ∙ ap (λ (x : List ℕ). x ++ drop n sums) (sums-append w a b ks (take n sums))
-      ∙ sym (leaf-sums (a ++ b) ks sums)
-
-  -- sums that begin at zero are the digest's full-width words
-  pub leaf-zero : (ms ks : List ℕ) → n ≤ 8 → take n (leafSums w n ms ks (replicate 8 0)) ≡ fullWords w n ms ks
-  leaf-zero ms ks few =
-      ap (take n) (leaf-sums ms ks (replicate 8 0))
-      ∙ first ms ks (replicate 8 0)
-      ∙ ap (addSums w ms ks) (zeros n 8 few)
-      ∙ sums-zero w n ms ks
+  first : take n (addSums w ms ks (take n sums) ++ drop n sums) ≡ addSums w ms ks (take n sums)
+  first = go (decLe n (length sums)) (addSums w ms ks (take n sums)) long
     where
-      zeros : (n m : ℕ) → n ≤ m → take n (replicate {A = ℕ} m 0) ≡ replicate n 0
-      zeros zero m le = refl
-      zeros (suc n) zero le = absurd (omega arith)
-      zeros (suc n) (suc m) le = ap (λ (l : List ℕ). 0 ∷ l) (zeros n m (omega arith))
+      go : Dec (n ≤ length sums) → (new : List ℕ) → length new ≡ min n (length sums) → take n (new ++ drop n sums) ≡ new
+      go (yes few) new l = take-at new (drop n sums) n (omega arith)
+      go (no many) new l = ap (λ (x : List ℕ). take n (new ++ x)) (drop-of-length-le sums {i = n} (omega arith)) ∙ ap (take n) (append-nil new) ∙ take-all n new (omega arith)
+
+  rest : drop n (addSums w ms ks (take n sums) ++ drop n sums) ≡ drop n sums
+  rest = go (decLe n (length sums)) (addSums w ms ks (take n sums)) long
+    where
+      go : Dec (n ≤ length sums) → (new : List ℕ) → length new ≡ min n (length sums) → drop n (new ++ drop n sums) ≡ drop n sums
+      go (yes few) new l = drop-at new (drop n sums) n (omega arith)
+      go (no many) new l =
+          let none : drop n sums ≡ [] = drop-of-length-le sums {i = n} (omega arith) in
+          ap (λ (x : List ℕ). drop n (new ++ x)) none ∙ ap (drop n) (append-nil new) ∙ drop-of-length-le new {i = n} (omega arith) ∙ sym none
+
+pub leaf-append : (w n : ℕ) (a b ks sums : List ℕ) → Sums w n (length (a ++ b)) (length ks)
+    → leafSums w n b (drop (length a) ks) (leafSums w n a ks sums) ≡ leafSums w n (a ++ b) ks sums
+leaf-append w n a b ks sums s =
+    ap (leafSums w n b (drop (length a) ks)) (leaf-sums w n a ks sums (first-sums w n a b ks s))
+    ∙ leaf-sums w n b (drop (length a) ks) (addSums w a ks (take n sums) ++ drop n sums) (second-sums w n a b ks s)
+    ∙ ap₂ (λ (x y : List ℕ). addSums w b (drop (length a) ks) x ++ y) (first w n a ks sums) (rest w n a ks sums)
+    ∙ ap (λ (x : List ℕ). x ++ drop n sums) (sums-append w a b ks (take n sums))
+    ∙ sym (leaf-sums w n (a ++ b) ks sums s)
+
+-- sums that begin at zero are the digest's full-width words
+pub leaf-zero : (w n : ℕ) (ms ks : List ℕ) → Sums w n (length ms) (length ks) → take n (leafSums w n ms ks (replicate 8 0)) ≡ fullWords w n ms ks
+leaf-zero w n ms ks s =
+    ap (take n) (leaf-sums w n ms ks (replicate 8 0) s)
+    ∙ first w n ms ks (replicate 8 0)
+    ∙ ap (addSums w ms ks) (zeros n 8 (s .words))
+    ∙ sums-zero w n ms ks
+  where
+    zeros : (n m : ℕ) → n ≤ m → take n (replicate {A = ℕ} m 0) ≡ replicate n 0
+    zeros zero m le = refl
+    zeros (suc n) zero le = absurd (omega arith)
+    zeros (suc n) (suc m) le = ap (λ (l : List ℕ). 0 ∷ l) (zeros n m (omega arith))
 
 -- the words that are kept of the sums
 pub length-map : (f : ℕ → ℕ) (words : List ℕ) → length (map f words) ≡ length words
@@ -176,29 +162,29 @@ unfolding digest
 length-digest w b n ms ks = length-map (kept b) (fullWords w n ms ks) ∙ length-full w n ms ks
 
 -- the digest, as the sums from zero are written
-pub digest-written : (w b n : ℕ) (ms ks sums old : List ℕ) → w ≤ 32 → n ≤ 8 → n ≤ length old → sums ≡ leafSums w n ms ks (replicate 8 0)
+pub digest-written : (w b n : ℕ) (ms ks sums old : List ℕ) → Sums w n (length ms) (length ks) → n ≤ length old → sums ≡ leafSums w n ms ks (replicate 8 0)
     → over (map (kept b) (take n sums)) old ≡ digest w b n ms ks ++ drop (length (digest w b n ms ks)) old
 unfolding digest
-digest-written w b n ms ks sums old le few room e =
-    let same : map (kept b) (take n sums) ≡ digest w b n ms ks = ap (λ (l : List ℕ). map (kept b) (take n l)) e ∙ ap (map (kept b)) (leaf-zero w n le ms ks few) in
+digest-written w b n ms ks sums old s room e =
+    let same : map (kept b) (take n sums) ≡ digest w b n ms ks = ap (λ (l : List ℕ). map (kept b) (take n l)) e ∙ ap (map (kept b)) (leaf-zero w n ms ks s) in
     ap (λ (l : List ℕ). over l old) same ∙ over-fits (digest w b n ms ks) old (omega (arith, length-digest w b n ms ks))
 
 -- the sums as the loop writes them, place by place
-pub sums-written : (w n end : ℕ) (ms ks sums : List ℕ) → w ≤ 32 → length sums ≡ 8 → end ≡ min n 8
-    → written (λ i. (getD sums i 0 + wholeSum w ms (drop i ks)) % 2 ^ w) end sums ≡ leafSums w n ms ks sums
-sums-written w n end ms ks sums le eight e =
+pub sums-written : (w n : ℕ) (ms ks sums : List ℕ) → Sums w n (length ms) (length ks)
+    → written (λ i. (getD sums i 0 + wholeSum w ms (drop i ks)) % 2 ^ w) (min n (length sums)) sums ≡ leafSums w n ms ks sums
+sums-written w n ms ks sums s =
     let few : List ℕ = take n sums in
-    let long : length few ≡ end = length-take n sums ∙ omega arith in
+    let end : ℕ = min n (length sums) in
     ap₂ (λ (x y : List ℕ). x ++ y)
     (table-same (λ i. (getD sums i 0 + wholeSum w ms (drop i ks)) % 2 ^ w) (λ i. getD (addSums w ms ks few) i 0) end
-    (λ i lt. ap (λ (x : ℕ). (x + wholeSum w ms (drop i ks)) % 2 ^ w) (sym (getD-take n sums i 0 (omega arith))) ∙ sym (sum-at w i ms ks few (omega arith)))
-    ∙ table-all (addSums w ms ks few) end (length-sums w ms ks few ∙ long))
-    (dropped (decLe n 8))
-    ∙ sym (leaf-sums w n le ms ks sums)
+    (λ i lt. ap (λ (x : ℕ). (x + wholeSum w ms (drop i ks)) % 2 ^ w) (sym (getD-take n sums i 0 (omega arith))) ∙ sym (sum-at w i ms ks few (omega (arith, length-take n sums))))
+    ∙ table-all (addSums w ms ks few) end (long w n ms ks sums))
+    (dropped (decLe n (length sums)))
+    ∙ sym (leaf-sums w n ms ks sums s)
   where
-    dropped : Dec (n ≤ 8) → drop end sums ≡ drop n sums
-    dropped (yes few) = let same : end ≡ n = omega arith in ap (λ (m : ℕ). drop m sums) same
-    dropped (no many) = drop-of-length-le sums {i = end} (omega arith) ∙ sym (drop-of-length-le sums {i = n} (omega arith))
+    dropped : Dec (n ≤ length sums) → drop (min n (length sums)) sums ≡ drop n sums
+    dropped (yes few) = let same : min n (length sums) ≡ n = omega arith in ap (λ (m : ℕ). drop m sums) same
+    dropped (no many) = drop-of-length-le sums {i = min n (length sums)} (omega arith) ∙ sym (drop-of-length-le sums {i = n} (omega arith))
 
 -- the kept words as the loop writes them
 pub kept-written : (b n end : ℕ) (sums old : List ℕ) → length sums ≡ 8 → end ≡ min (min n 8) (length old)

@@ -1,4 +1,2 @@
-pub mod Apart
-pub mod Left
-pub mod Leaf
+pub mod Summable
 pub mod Each

@@ -1,3 +1,1 @@
-pub mod Leaf
-pub mod Left
 pub mod Sums

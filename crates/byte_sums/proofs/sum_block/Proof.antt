@@ -1,8 +1,4 @@
 -- `byte_sums::sum_block` meets its contract.
-use mathlib.Core.Path.{ap, _∙_}
-use mathlib.Core.List.{List}
-use Prim.Native.Nat.{ℕ}
-use Rattle.sums.specs.Sums.{leafSums}
 use borrow.Author.Needs.{needs}
 use Rattle.byte_sums.proofs.sum_block.Statement.{statement}
 use Rattle.byte_sums.proofs.sum_block.Tie as tie
@@ -16,10 +12,11 @@ add-sums-requires c κs = search needs
 same-length : tie.Need-same-length
 same-length c = search needs
 
+same-length-2 : tie.Need-same-length-2
+same-length-2 c = search needs
+
 returns : tie.Need-returns
-returns c =
-    let a = c .before .before .before .before .before .before .before .before .before .args in
-    c .add-sums .ensures ∙ ap (λ (l : List ℕ). leafSums (a .w) (a .n) l (a .key .now) (a .sums)) (c .before .before .before .before .decode .ensures)
+returns c = let call = c .before .before in rw (← call .before .before .before .before .before .decode .ensures) (call .add-sums .ensures)
 
 pub sum-block-spec : {M : Type 1} → statement M
-sum-block-spec = tie.close (tie.spec decode-requires add-sums-requires same-length returns)
+sum-block-spec = tie.close (tie.spec decode-requires add-sums-requires same-length same-length-2 returns)

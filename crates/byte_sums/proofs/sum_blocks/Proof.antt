@@ -1,30 +1,36 @@
--- `byte_sums::sum_blocks` meets its contract: before each block the sums are those of the words that are passed.
-use mathlib.Core.Path.{_≡_, refl, sym, ap, _∙_}
-use Prim.Native.Nat.{ℕ, _-_, _*_, _≤_}
+-- `byte_sums::sum_blocks` meets its contract: before each block the sums and the range test are those of the words that are passed.
+use mathlib.Core.Path.{_≡_, refl, sym, _∙_}
+use Prim.Native.Nat.{_-_, _≤_}
 use native.Mathlib.Nat.{le-mul-of-pos-right}
 use native.Mathlib.Omega.{arith}
 use lib.ListN.{length}
 use lib.Seq.{length-take-le, length-front}
-use Rattle.rows.proofs.Parts.{part-from}
-use Rattle.byte_sums.specs.Bytes.{sumsFrom}
-use Rattle.byte_sums.proofs.Blocks.{word-starts, block-fits, block-words, sums-nothing, sums-step}
+use Rattle.rows.proofs.Parts.{part-to-end}
+use Rattle.sums.proofs.Summable.{sums-are}
+use Rattle.byte_sums.proofs.Blocks.{word-starts, block-fits, block-words, sumsTo, fitTo, sums-to, fit-to, sums-step, fit-step}
 use borrow.Author.Needs.{needs}
 use Rattle.byte_sums.proofs.sum_blocks.Statement.{statement}
 use Rattle.byte_sums.proofs.sum_blocks.Tie as tie
 
 abbrev Inv-loop : tie.InvT-loop
-Inv-loop w c n t message key row₀ sums₀ at₀ row sums at = (at ≤ t) × (length row ≡ 512) × (sums ≡ sumsFrom w n c at message key)
+Inv-loop w c n t message key sums₀ row₀ fit₀ at₀ sums row fit at =
+    (at ≤ t)
+    × (length row ≡ 1024)
+    × (length sums ≡ length sums₀)
+    × (fit ≡ fitTo w n c at message key)
+    × (sums ≡ sumsTo w n c at message key sums₀)
 
 abbrev μ-loop : tie.MeasureT-loop
-μ-loop w c n t message key row₀ sums₀ at₀ row sums at = t - at
+μ-loop w c n t message key sums₀ row₀ fit₀ at₀ sums row fit at = t - at
 
 loop-holds : tie.Need-loop-holds Inv-loop μ-loop
-loop-holds c = (search needs, refl, sums-nothing _ _ _ _ _ (search needs))
+unfolding fitTo sumsTo
+loop-holds c = (search needs, refl, refl, refl, refl)
 
 add-lesser : tie.Need-add-lesser Inv-loop μ-loop
 add-lesser c =
-    let s = c .before .before .before .before in
-    omega (arith, le-mul-of-pos-right (s .args .t) (s .pre .1 .0))
+    let s = c .before .before .before .before .before in
+    omega (arith, le-mul-of-pos-right (s .args .t) (s .pre .2 .0))
 
 lesser-requires : tie.Need-lesser-requires Inv-loop μ-loop
 lesser-requires c κs = search needs
@@ -34,33 +40,36 @@ sub-size c = omega arith
 
 mul-start : tie.Need-mul-start Inv-loop μ-loop
 mul-start c =
-    let s = c .before .before .before .before .before in
-    omega (arith, word-starts (s .args .c) (s .args .t) (c .before .before .loop .at) (length (s .args .message .now)) (omega arith) (s .pre .2))
-
-lesser-requires-2 : tie.Need-lesser-requires-2 Inv-loop μ-loop
-lesser-requires-2 c κs = search needs
+    let s = c .before .before .before .before .before .before in
+    omega (arith, word-starts (s .args .c) (s .args .t) (c .before .before .loop .at) (length (s .args .message .now)) (omega arith) (s .pre .3))
 
 sub-sum-block : tie.Need-sub-sum-block Inv-loop μ-loop
 sub-sum-block c =
     let s = c .before .before .before .before .before .before in
-    omega (arith, word-starts (s .args .c) (s .args .t) (c .before .before .before .loop .at) (length (s .args .message .now)) (omega arith) (s .pre .2))
+    omega (arith, word-starts (s .args .c) (s .args .t) (c .before .before .loop .at) (length (s .args .message .now)) (omega arith) (s .pre .3))
 
 part-sum-block-start : tie.Need-part-sum-block-start Inv-loop μ-loop
 part-sum-block-start c =
     let s = c .before .before .before .before .before .before in
-    omega (arith, word-starts (s .args .c) (s .args .t) (c .before .before .before .loop .at) (length (s .args .message .now)) (omega arith) (s .pre .2))
+    omega (arith, word-starts (s .args .c) (s .args .t) (c .before .before .loop .at) (length (s .args .message .now)) (omega arith) (s .pre .3))
 
 part-sum-block-end : tie.Need-part-sum-block-end Inv-loop μ-loop
 part-sum-block-end c = search needs
 
 mul-sum-block : tie.Need-mul-sum-block Inv-loop μ-loop
-mul-sum-block c = omega arith
+mul-sum-block c =
+    let s = c .before .before .before .before .before .before .before in
+    omega (arith, sums-are (s .args .w) (s .args .n) (s .args .t) (length (s .args .key .now)) (s .pre .0) .keys)
 
 sub-sum-block-2 : tie.Need-sub-sum-block-2 Inv-loop μ-loop
-sub-sum-block-2 c = omega arith
+sub-sum-block-2 c =
+    let s = c .before .before .before .before .before .before .before in
+    omega (arith, sums-are (s .args .w) (s .args .n) (s .args .t) (length (s .args .key .now)) (s .pre .0) .keys)
 
 part-sum-block-start-2 : tie.Need-part-sum-block-start-2 Inv-loop μ-loop
-part-sum-block-start-2 c = omega arith
+part-sum-block-start-2 c =
+    let s = c .before .before .before .before .before .before .before in
+    omega (arith, sums-are (s .args .w) (s .args .n) (s .args .t) (length (s .args .key .now)) (s .pre .0) .keys)
 
 part-sum-block-end-2 : tie.Need-part-sum-block-end-2 Inv-loop μ-loop
 part-sum-block-end-2 c = search needs
@@ -73,35 +82,48 @@ slice-aggregate-sum-block c = sym (length-take-le _ _ (omega arith))
 
 sum-block-requires : tie.Need-sum-block-requires Inv-loop μ-loop
 sum-block-requires c κs =
-    let s = c .before .before .before .before .before .before .before .before .before in
+    let s = c .before .before .before .before .before .before .before .before .before .before in
     let a = s .args in
     let l = c .before .before .before .before .before .before .loop in
-    (s .pre .1, block-fits (a .c) (a .t) (l .at) (c .before .before .before .before .lesser .result - l .at) (a .message .now) (l .row) (s .pre .2) (omega arith) (omega arith) (omega arith))
+    (s .pre .2, block-fits (a .c) (a .t) (l .at) (c .before .before .before .before .lesser .result - l .at) (a .message .now) (l .row) (s .pre .3) (omega arith) (omega arith) (omega arith))
+
+both-requires : tie.Need-both-requires Inv-loop μ-loop
+both-requires c κs = search needs
 
 loop-less : tie.Need-loop-less Inv-loop μ-loop
 loop-less c = omega arith
 
 loop-again : tie.Need-loop-again Inv-loop μ-loop
 loop-again c =
-    let s = c .before .before .before .before .before .before .before .before .before .before .before in
+    let summed = c .before .before .before .before in
+    let found = summed .before .before .before .before .before in
+    let l = found .before .before .loop in
+    let s = found .before .before .before .before .before .before in
     let a = s .args in
-    let l = c .before .before .before .before .before .before .before .before .loop in
-    let end = c .before .before .before .before .before .before .lesser .result in
-    let size = end - l .at in (
+    let end = found .lesser .result in
+    let size = end - l .at in
+    let can = sums-are (a .w) (a .n) (a .t) (length (a .key .now)) (s .pre .0) in
+    let words = block-words (a .c) (a .t) (l .at) size (a .message .now) (l .row) (s .pre .3) (omega arith) (omega arith) (omega arith) in
+    let keys = part-to-end (length (a .key .now)) (l .at) (a .key .now) refl in (
       omega arith,
-      length-front (l .row) (c .before .sum-block .last .1 .1 .1 .1 .1 .0) size (c .row2 .given) ∙ l .inv .1,
-      c .before .sum-block .ensures
-          ∙ sums-step (a .w) (a .n) (a .c) (a .message .now) (a .key .now) (l .at) size end _ _ (l .sums) (omega arith) (omega arith)
-          (block-words (a .c) (a .t) (l .at) size (a .message .now) (l .row) (s .pre .2) (omega arith) (omega arith) (omega arith))
-          (part-from _ (l .at) (a .key .now) (c .before .before .before .before .before .lesser2 .ensures))
-          (l .inv .2),
+      length-front (l .row) (summed .sum-block .last .1 .1 .1 .1 .1 .0) size (c .before .before .before .row2 .given) ∙ l .inv .1,
+      search needs,
+      fit-step (a .w) (a .n) (a .c) (a .t) (a .message .now) (a .key .now) _ _ can (l .at) size end (l .fit) (omega arith) (omega arith) (omega arith) words keys (l .inv .3) (summed .sum-block .ensures .0) (c .both .ensures),
+      sums-step (a .w) (a .n) (a .c) (a .t) (a .message .now) (a .key .now) _ _ can (l .at) size end (a .sums .now) (l .sums) (omega arith) (omega arith) (omega arith) words keys (l .inv .4) (summed .sum-block .ensures .1),
     )
+
+same-length : tie.Need-same-length Inv-loop μ-loop
+same-length c = search needs
 
 returns : tie.Need-returns Inv-loop μ-loop
 returns c =
-    let a = c .before .before .before .before .args in
+    let s = c .before .before .before .before .before in
+    let a = s .args in
     let l = c .before .loop in
-    l .inv .2 ∙ ap (λ (t : ℕ). sumsFrom (a .w) (a .n) (a .c) t (a .message .now) (a .key .now)) (omega arith)
+    let all : l .at ≡ a .t = omega arith in (
+      l .inv .3 ∙ rw all (fit-to (a .w) (a .n) (a .c) (a .t) (a .message .now) (a .key .now) (s .pre .1)),
+      l .inv .4 ∙ rw all (sums-to (a .w) (a .n) (a .c) (a .t) (a .message .now) (a .key .now) (s .pre .1) (a .sums .now)),
+    )
 
 pub sum-blocks-spec : {M : Type 1} → statement M
 sum-blocks-spec =
@@ -114,7 +136,6 @@ sum-blocks-spec =
     lesser-requires
     sub-size
     mul-start
-    lesser-requires-2
     sub-sum-block
     part-sum-block-start
     part-sum-block-end
@@ -125,6 +146,8 @@ sum-blocks-spec =
     array-borrow-prefix-row
     slice-aggregate-sum-block
     sum-block-requires
+    both-requires
     loop-less
     loop-again
+    same-length
     returns)

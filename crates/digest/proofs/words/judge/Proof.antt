@@ -1,7 +1,6 @@
 -- `digest::words::judge` meets its contract: each return is the first test that holds.
-use mathlib.Core.Path.{sym}
 use Rattle.answers.proofs.Judged.{judged}
-use Rattle.digest.specs.Words.{digestAnswer}
+use Rattle.digest.specs.Shape.{wordsShape}
 use borrow.Author.Needs.{needs}
 use Rattle.digest.proofs.words.judge.Statement.{statement}
 use Rattle.digest.proofs.words.judge.Tie as tie
@@ -10,29 +9,29 @@ bad-width-requires : tie.Need-bad-width-requires
 bad-width-requires c κs = search needs
 
 returns : tie.Need-returns
-unfolding digestAnswer
-returns c = sym (search judged depth 9)
+unfolding wordsShape
+returns c later = search judged depth 9
 
 bad-kept-requires : tie.Need-bad-kept-requires
 bad-kept-requires c κs = search needs
 
 returns-2 : tie.Need-returns-2
-unfolding digestAnswer
-returns-2 c = sym (search judged depth 9)
+unfolding wordsShape
+returns-2 c later = search judged depth 9
 
 bad-count-requires : tie.Need-bad-count-requires
 bad-count-requires c κs = search needs
 
 returns-3 : tie.Need-returns-3
-unfolding digestAnswer
-returns-3 c = sym (search judged depth 9)
+unfolding wordsShape
+returns-3 c later = search judged depth 9
 
 too-long-requires : tie.Need-too-long-requires
 too-long-requires c κs = search needs
 
 returns-4 : tie.Need-returns-4
-unfolding digestAnswer
-returns-4 c = sym (search judged depth 9)
+unfolding wordsShape
+returns-4 c later = search judged depth 9
 
 add-bad-key : tie.Need-add-bad-key
 add-bad-key c = search needs
@@ -41,26 +40,19 @@ bad-key-requires : tie.Need-bad-key-requires
 bad-key-requires c κs = search needs
 
 returns-5 : tie.Need-returns-5
-unfolding digestAnswer
-returns-5 c = sym (search judged depth 9)
+unfolding wordsShape
+returns-5 c later = search judged depth 9
 
 small-tray-requires : tie.Need-small-tray-requires
 small-tray-requires c κs = search needs
 
 returns-6 : tie.Need-returns-6
-unfolding digestAnswer
-returns-6 c = sym (search judged depth 9)
-
-bad-words-requires : tie.Need-bad-words-requires
-bad-words-requires c κs = search needs
+unfolding wordsShape
+returns-6 c later = search judged depth 9
 
 returns-7 : tie.Need-returns-7
-unfolding digestAnswer
-returns-7 c = sym (search judged depth 9)
-
-returns-8 : tie.Need-returns-8
-unfolding digestAnswer
-returns-8 c = sym (search judged depth 9)
+unfolding wordsShape
+returns-7 c later = search judged depth 9
 
 pub judge-spec : {M : Type 1} → statement M
 judge-spec =
@@ -79,6 +71,4 @@ judge-spec =
     returns-5
     small-tray-requires
     returns-6
-    bad-words-requires
-    returns-7
-    returns-8)
+    returns-7)

@@ -17,7 +17,8 @@ cast-n c = search needs
 push-sums-requires : tie.Need-push-sums-requires
 push-sums-requires c κs =
     let t = accepted (c .before .before .before .before .before) in
-    (t .state .settings .width, t .state .settings .words, sym (t .words))
+    let r = t .state .settings in
+    (r .some-width, r .width, r .some-words, r .words, sym (t .words))
 
 last-requires : tie.Need-last-requires
 last-requires c κs = accepted (c .before .before .before .before .before .before) .state .settings .words
@@ -32,9 +33,9 @@ returns : tie.Need-returns
 returns c =
     let start = c .before .before .before .before .before .before .before .before in
     let a = start .args in
-    let state = accepted start .state in
-    let eight : length (a .s .sums) ≡ 8 = search needs in
-    pushed-from (a .s) (a .message .now) (a .key .now) _ _ (state .settings .width) (state .settings .words) eight (state .sums) (c .before .last .ensures) (c .before .before .push-sums .ensures)
+    let keys-eight : length (a .s .keys) ≡ 8 = search needs in
+    let sums-eight : length (a .s .sums) ≡ 8 = search needs in
+    pushed-from (a .s) (a .message .now) (a .key .now) _ _ (accepted start) keys-eight sums-eight (c .before .last .ensures) (c .before .before .push-sums .ensures)
 
 pub push-fit-spec : {M : Type 1} → statement M
 push-fit-spec =

@@ -3,7 +3,7 @@ use mathlib.Core.Path.{_≡_}
 use native.Mathlib.Omega.{arith}
 use lib.ListN.{length, take, length-take}
 use Rattle.answers.proofs.States.{held-length}
-use Rattle.stream.proofs.Joined.{joint-sums}
+use Rattle.stream.proofs.Joined.{held-sums, joint-sums}
 use borrow.Author.Needs.{needs}
 use Rattle.stream.proofs.adding.push_sums.Statement.{statement}
 use Rattle.stream.proofs.adding.push_sums.Tie as tie
@@ -26,6 +26,9 @@ slice-aggregate-add-sums c = simp length-take (omega arith)
 slice-aggregate-add-sums-2 : tie.Need-slice-aggregate-add-sums-2
 slice-aggregate-add-sums-2 c = search needs
 
+slice-aggregate-add-sums-3 : tie.Need-slice-aggregate-add-sums-3
+slice-aggregate-add-sums-3 c = search needs
+
 add-sums-requires : tie.Need-add-sums-requires
 add-sums-requires c κs = search needs
 
@@ -41,18 +44,23 @@ part-add-sums-start c = search needs
 part-add-sums-end : tie.Need-part-add-sums-end
 part-add-sums-end c = search needs
 
+slice-aggregate-add-sums-4 : tie.Need-slice-aggregate-add-sums-4
+slice-aggregate-add-sums-4 c = search needs
+
 add-sums-requires-2 : tie.Need-add-sums-requires-2
 add-sums-requires-2 c κs = search needs
 
 returns : tie.Need-returns
 returns c =
-    let begun = c .before .before in
-    let joined = begun .before .before .before in
+    let ended = c .before in
+    let begun = ended .before .before .before .before in
+    let joined = begun .before .before .before .before in
     let measured = joined .before .before in
     let start = measured .before .before .before in
     let a = start .args in
     joint-sums (a .w) (a .n) (measured .lesser .result) (take (a .n) (a .held)) (a .message .now) (a .key .now) (held start) (omega arith) (measured .lesser .ensures)
-    _ _ _ _ _ (omega arith) (joined .join .ensures) (begun .add-sums .ensures) (c .add-sums2 .ensures)
+    (held-sums (a .w) (a .n) (take (a .n) (a .held)) (a .message .now) (a .key .now) (omega arith) (omega arith) (omega arith) (omega arith) (held start) (omega arith))
+    _ _ _ _ _ (joined .join .ensures) (begun .add-sums .ensures .1) (ended .add-sums2 .ensures .1)
 
 pub push-sums-spec : {M : Type 1} → statement M
 push-sums-spec =
@@ -63,10 +71,12 @@ push-sums-spec =
     join-requires
     slice-aggregate-add-sums
     slice-aggregate-add-sums-2
+    slice-aggregate-add-sums-3
     add-sums-requires
     mul-add-sums
     sub-add-sums
     part-add-sums-start
     part-add-sums-end
+    slice-aggregate-add-sums-4
     add-sums-requires-2
     returns)
