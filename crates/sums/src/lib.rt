@@ -1,7 +1,7 @@
 // What the sums of words are made of: products, the bits that are kept, the words as they are written, the tests before them.
 ghost use mathlib.Core.Path.{_≡_};
 ghost use mathlib.Core.Bool.{_&&_};
-ghost use mathlib.Core.List.{map};
+ghost use mathlib.Core.List.{[], _∷_, map};
 ghost use Prim.Native.Nat.{_*_, _%_, _^_, _≤_};
 ghost use lib.ListN.{take};
 ghost use Rattle.rows.specs.Written.{over};
@@ -77,14 +77,14 @@ pub fn can_sum(w: u32, n: u32, message: usize, key: usize) -> bool
     message <= key - words
 }
 
-// The range test of a message, where it is asked for, and of a key.
-pub fn rows_fit(w: u32, tested: bool, message: &[u32], key: &[u32]) -> bool
-    ensures { λ r. ⌜ r ≡ (tests tested w (now (message .entry)) && fits w (now (key .entry))) ⌝ }
+// The range test of a message word, where it is asked for, and of a key.
+pub fn rest_fits(w: u32, tested: bool, last: u32, key: &[u32]) -> bool
+    ensures { λ r. ⌜ r ≡ (tests tested w (last ∷ []) && fits w (now (key .entry))) ⌝ }
 {
     if !tested {
         return range::row_fits(w, key);
     }
-    if range::row_fits(w, message) {
+    if range::below(w, last) {
         return range::row_fits(w, key);
     }
     false

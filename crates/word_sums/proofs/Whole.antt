@@ -5,6 +5,8 @@ use mathlib.Core.List.{List, [], _∷_, _++_}
 use Prim.Native.Nat.{ℕ, _+_, _-_, _*_, _/_, _%_, _^_, min, _≤_, _<_}
 use native.Mathlib.Nat.{add-zero, add-assoc, add-mod-mod, mod-add-mod}
 use native.Mathlib.Omega.{arith}
+use borrow.Author.Tests.{lt-ltb}
+use lib.Pow.{pow-pos}
 use lib.ListN.{length, getD, take, drop, take-append-drop}
 use lib.Seq.{take-add, drop-at, getD-drop}
 use Rattle.rows.specs.Written.{table, written}
@@ -16,6 +18,11 @@ use Rattle.walk.specs.Walk.{together, sumAt, added, Walked}
 use Rattle.sums.proofs.Summable.{Sums, middle, tests-append, leaf-fit}
 use Rattle.sums.proofs.Each.{drop-swap, sums-written}
 
+-- no last word
+pub none-last : (ms : List ℕ) → length ms ≡ 0 → 0 ≡ getD ms 0 0
+none-last [] none = refl
+none-last (m ∷ ms) none = absurd (omega arith)
+
 -- what one word adds, or none, as a sum over the key
 module _ (w : ℕ) where
   pub one-added : (ms ks : List ℕ) (i : ℕ) → length ms ≡ 1 → added w ks i (getD ms 0 0) ≡ wholeSum w ms (drop i ks)
@@ -25,6 +32,19 @@ module _ (w : ℕ) where
       ap₂ (λ (x y : ℕ). m * x + m * y / 2 ^ w) (ap (λ (k : ℕ). getD ks k 0) (sym (add-zero i)) ∙ sym (getD-drop i ks 0 0)) (sym (getD-drop i ks 1 0))
       ∙ sym (add-zero _)
   one-added (m ∷ m′ ∷ ms) ks i one = absurd (omega arith)
+
+  -- the range test of an odd last word, or of none
+  last-tests : (asked : Bool) (ms : List ℕ) → length ms ≤ 1 → tests asked w (getD ms 0 0 ∷ []) ≡ tests asked w ms
+  unfolding tests fits
+  last-tests true [] few = rw (lt-ltb 0 (2 ^ w) (pow-pos w))
+  last-tests false [] few = refl
+  last-tests asked (m ∷ []) few = refl
+  last-tests asked (m ∷ m′ ∷ ms) few = absurd (omega arith)
+
+  pub last-fit : (asked : Bool) (ms ks : List ℕ) (last : ℕ) (fit : Bool) → length ms ≤ 1 → last ≡ getD ms 0 0
+      → fit ≡ (tests asked w (last ∷ []) && fits w ks)
+      → fit ≡ (tests asked w ms && fits w ks)
+  last-fit asked ms ks last fit few is e = e ∙ ap (λ (t : Bool). t && fits w ks) (ap (λ (m : ℕ). tests asked w (m ∷ [])) is ∙ last-tests asked ms few)
 
   pub none-added : (ms ks : List ℕ) → length ms ≡ 0 → 0 ≡ wholeSum w ms ks
   unfolding wholeSum

@@ -31,20 +31,15 @@ pub fn add_sums(
     let low = walked.low;
     let high = walked.high;
     let done = message.len() / 2 * 2;
-    finish(w, words, low, high, &message[done..], &key[done..], sums);
+    let last = finish(w, words, low, high, &message[done..], &key[done..], sums);
     if !range::below(w, walked.bits) {
         return false;
     }
-    sums::rows_fit(
-        w,
-        tested,
-        &message[done..],
-        &key[done..message.len() + words],
-    )
+    sums::rest_fits(w, tested, last, &key[done..message.len() + words])
 }
 
-// The held sums with those of the walk, and then with an odd last word. The rows come by value: read here by a number that
-// the compiler does not know, the walk's own would have to stand in memory.
+// The held sums with those of the walk, and then with an odd last word, which it returns, or 0. The rows come by value: read
+// here by a number that the compiler does not know, the walk's own would have to stand in memory.
 fn finish(
     w: u32,
     n: usize,
@@ -53,17 +48,21 @@ fn finish(
     message: &[u32],
     key: &[u32],
     sums: &mut [u32],
-)
+) -> u32
     requires { ⌜ (w ≤ 32) × (n ≤ 8) × (length (now message) ≤ 1) × (length (now message) + n ≤ length (now key)) ⌝ }
-    ensures { λ _. ⌜
-        now (sums .exit)
-        ≡ written (λ i. (getD (now (sums .entry)) i 0 + (sumAt w low high i + wholeSum w (now (message .entry)) (drop i (now (key .entry))))) % 2 ^ w) (min n (length (now (sums .entry)))) (now (sums .entry))
+    ensures { λ r. ⌜
+        (r ≡ getD (now (message .entry)) 0 0)
+        × (now (sums .exit)
+        ≡ written (λ i. (getD (now (sums .entry)) i 0 + (sumAt w low high i + wholeSum w (now (message .entry)) (drop i (now (key .entry))))) % 2 ^ w) (min n (length (now (sums .entry)))) (now (sums .entry)))
         ⌝ }
 {
     add_totals(w, n, low, high, sums);
     if message.len() == 1 {
-        add_last(w, n, message[0], key, sums);
+        let last = message[0];
+        add_last(w, n, last, key, sums);
+        return last;
     }
+    0
 }
 
 // The held sums with one message word, each under its own word of the key's part.

@@ -1,16 +1,16 @@
 -- `word_sums::add_sums` meets its contract: the walk over the words in pairs, the odd last word, and the key's last words.
 use mathlib.Core.Path.{_≡_, refl, sym, _∙_}
 use mathlib.Core.Bool.{true}
-use Prim.Native.Nat.{_-_}
+use Prim.Native.Nat.{_-_, _≤_}
 use native.Mathlib.Omega.{arith}
-use lib.ListN.{length, length-drop}
+use lib.ListN.{length, take, drop, length-drop}
 use borrow.Author.Tests.{not-true, not-false}
 use Rattle.rows.proofs.Parts.{part-to-end}
 use Rattle.walk.specs.Walk.{paired}
 use Rattle.sums.specs.Sums.{summable}
 use Rattle.sums.proofs.Summable.{Sums, sums-are, leaf-unfit}
 use Rattle.sums.proofs.Each.{leaf-still}
-use Rattle.word_sums.proofs.Whole.{whole-sums, walk-unfit, walk-fit}
+use Rattle.word_sums.proofs.Whole.{last-fit, whole-sums, walk-unfit, walk-fit}
 use borrow.Author.Needs.{needs}
 use Rattle.word_sums.proofs.add_sums.Statement.{statement}
 use Rattle.word_sums.proofs.add_sums.Tie as tie
@@ -90,45 +90,33 @@ returns-2 c =
     let ks = a .key .now in
     let done = paired ms in (
       walk-unfit (a .w) (a .n) ms ks s (a .tested) done (omega arith) (sym (did .1) ∙ sym (c .before .below .ensures) ∙ not-true _ (c .if2 .taken)),
-      whole-sums (a .w) (a .n) ms ks s (walked .walk-pairs .result .low) (walked .walk-pairs .result .high) (a .sums .now) _ _ _ done (part-to-end _ done ms refl) (part-to-end _ done ks refl) (did .0) (summed .finish .ensures),
+      whole-sums (a .w) (a .n) ms ks s (walked .walk-pairs .result .low) (walked .walk-pairs .result .high) (a .sums .now) _ _ _ done (part-to-end _ done ms refl) (part-to-end _ done ks refl) (did .0) (summed .finish .ensures .1),
     )
 
-mul-rows-fit : tie.Need-mul-rows-fit
-mul-rows-fit c = search needs
+add-rest-fits : tie.Need-add-rest-fits
+add-rest-fits c = search needs
 
-sub-rows-fit : tie.Need-sub-rows-fit
-sub-rows-fit c = search needs
+mul-rest-fits : tie.Need-mul-rest-fits
+mul-rest-fits c = search needs
 
-part-rows-fit-start : tie.Need-part-rows-fit-start
-part-rows-fit-start c = search needs
+sub-rest-fits : tie.Need-sub-rest-fits
+sub-rest-fits c = search needs
 
-part-rows-fit-end : tie.Need-part-rows-fit-end
-part-rows-fit-end c = search needs
+part-rest-fits-start : tie.Need-part-rest-fits-start
+part-rest-fits-start c = search needs
 
-add-rows-fit : tie.Need-add-rows-fit
-add-rows-fit c = search needs
+part-rest-fits-end : tie.Need-part-rest-fits-end
+part-rest-fits-end c = here (c .before .before .before .before .before .before .before .before .before .before .before) .keys
 
-mul-rows-fit-2 : tie.Need-mul-rows-fit-2
-mul-rows-fit-2 c = search needs
-
-sub-rows-fit-2 : tie.Need-sub-rows-fit-2
-sub-rows-fit-2 c = search needs
-
-part-rows-fit-start-2 : tie.Need-part-rows-fit-start-2
-part-rows-fit-start-2 c = search needs
-
-part-rows-fit-end-2 : tie.Need-part-rows-fit-end-2
-part-rows-fit-end-2 c = here (c .before .before .before .before .before .before .before .before .before .before .before .before) .keys
-
-rows-fit-requires : tie.Need-rows-fit-requires
-rows-fit-requires c κs = search needs
+rest-fits-requires : tie.Need-rest-fits-requires
+rest-fits-requires c κs = search needs
 
 same-length-2 : tie.Need-same-length-2
 same-length-2 c = search needs
 
 returns-3 : tie.Need-returns-3
 returns-3 c =
-    let tested = c .before .before .before in
+    let tested = c .before .before in
     let summed = tested .before .before .before .before in
     let walked = summed .before .before .before .before .before .before in
     let s = here (walked .before) in
@@ -136,11 +124,13 @@ returns-3 c =
     let a = walked .before .before .before .before .before .before .args in
     let ms = a .message .now in
     let ks = a .key .now in
-    let done = paired ms in (
-      walk-fit (a .w) (a .n) ms ks s (a .tested) done (omega arith) (c .rows-fit .result) _ (part-to-end _ done ms refl)
+    let done = paired ms in
+    let left = take (length ms - done) (drop done ms) in
+    let few : length left ≤ 1 = rw (part-to-end _ done ms refl, length-drop done ms) (omega arith) in (
+      walk-fit (a .w) (a .n) ms ks s (a .tested) done (omega arith) (c .rest-fits .result) left (part-to-end _ done ms refl)
           (sym (did .1) ∙ sym (tested .before .below .ensures) ∙ not-false _ (tested .if2 .left))
-          (c .rows-fit .ensures),
-      whole-sums (a .w) (a .n) ms ks s (walked .walk-pairs .result .low) (walked .walk-pairs .result .high) (a .sums .now) _ _ _ done (part-to-end _ done ms refl) (part-to-end _ done ks refl) (did .0) (summed .finish .ensures),
+          (last-fit (a .w) (a .tested) left _ _ _ few (summed .finish .ensures .0) (c .rest-fits .ensures)),
+      whole-sums (a .w) (a .n) ms ks s (walked .walk-pairs .result .low) (walked .walk-pairs .result .high) (a .sums .now) _ _ _ done (part-to-end _ done ms refl) (part-to-end _ done ks refl) (did .0) (summed .finish .ensures .1),
     )
 
 pub add-sums-spec : {M : Type 1} → statement M
@@ -163,15 +153,11 @@ add-sums-spec =
     below-requires
     same-length
     returns-2
-    mul-rows-fit
-    sub-rows-fit
-    part-rows-fit-start
-    part-rows-fit-end
-    add-rows-fit
-    mul-rows-fit-2
-    sub-rows-fit-2
-    part-rows-fit-start-2
-    part-rows-fit-end-2
-    rows-fit-requires
+    add-rest-fits
+    mul-rest-fits
+    sub-rest-fits
+    part-rest-fits-start
+    part-rest-fits-end
+    rest-fits-requires
     same-length-2
     returns-3)
