@@ -17,7 +17,8 @@
  *
  * What the counts cover: how many keys make two different messages agree is proved
  * over all keys of t + n words drawn uniformly, n being 1 for a code; a stretched key
- * is one of at most 2^32, and no count is proved for those.
+ * is one of at most 2^32, and no count is proved for those. Messages of words have
+ * one length there; of bytes, any lengths (pairing_digest_bytes).
  */
 #ifndef PAIRING_H
 #define PAIRING_H
@@ -114,6 +115,11 @@ uint32_t pairing_digest_words(uint32_t w, uint32_t b, uint32_t n,
  * lowest in its word, and zero bytes fill up the last word. w is 8, 16 or 32, and
  * message_bytes / (w / 8) + 1 words are made, the quotient rounded down; the key has
  * n words more. Answers and output as above.
+ *
+ * Two different messages that make at most T words each, equally many or not, have
+ * any n named differences of digests, and so one digest, under at most
+ * 2^(w * T + n + n * (w - b)) of the keys of T + n words, where each is digested under
+ * as many first words of the key as it needs: this is proved.
  */
 PAIRING_USE_ANSWER
 uint32_t pairing_digest_bytes(uint32_t w, uint32_t b, uint32_t n,

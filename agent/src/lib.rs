@@ -22,9 +22,10 @@
 //! agree, at most 2^(w·t + n + n·(w−b)) of 2^(w·(t+n)); and how many give a message each digest.
 //! Codes of d digits have a third: two different messages of t words share one under at most
 //! (2F + 1)·2^(w·t + 1) keys of t + 1 words, where F is (2^w − 1) div 10^d. Length is in words.
-//! Bytes are closed, so different bytes that make equally many words make different ones, which is
-//! proved too. A key that [`stretch`] makes is one of at most 2^32, and no count is proved for
-//! those.
+//! Bytes are closed, so the first count holds of different bytes of any lengths: over all keys of
+//! T + n words, where both make at most T words and each is digested under as many first words of
+//! the key as it needs, at most 2^(w·T + n + n·(w−b)) make them agree. A key that [`stretch`] makes
+//! is one of at most 2^32, and no count is proved for those.
 
 #![deny(unsafe_code)]
 #![deny(missing_docs)]
@@ -83,6 +84,23 @@ pub fn digest_words(
 /// assert_eq!(digest, [0x0000_8005]);
 /// digest_bytes(settings, &[5, 0], &[1, 0], &mut digest)?;
 /// assert_eq!(digest, [0x0080_0005]);
+/// # Ok::<(), pairing_agent::Refusal>(())
+/// ```
+///
+/// Two labels of different length share one key, each taking the first words that it needs:
+///
+/// ```
+/// use pairing_agent::{digest_bytes, digests_match, Settings};
+///
+/// let settings = Settings { width: 8, kept: 8, words: 1 };
+/// let key = [7, 9, 200];
+/// let mut digests = [[0], [0]];
+/// for (label, digest) in [&[][..], &[0x11]].into_iter().zip(&mut digests) {
+///     let needed = settings.key_words(settings.words_of_bytes(label.len()));
+///     digest_bytes(settings, label, &key[..needed], digest)?;
+/// }
+/// assert_eq!(digests, [[0x84], [0x5b]]);
+/// assert!(!digests_match(1, &digests[0], &digests[1])?);
 /// # Ok::<(), pairing_agent::Refusal>(())
 /// ```
 ///

@@ -8,8 +8,9 @@ use native.Mathlib.Decide.{decLe}
 use native.Mathlib.Omega.{arith}
 use lib.ListN.{length, getD, drop, replicate, drop-of-length-le, List·getD-eq-default}
 use lib.Seq.{getD-drop}
+use Rattle.counts.specs.CommonKey.{filledUp}
 use Rattle.byte_sums.specs.Bytes.{littleEndian, wordsFrom, countOf, inWords, closed, wordsOf}
-use Rattle.byte_sums.specs.Closed.{Bytes, filledUp, KeepsApart, ClosedApart, OpenAlike}
+use Rattle.byte_sums.specs.Closed.{Bytes, KeepsApart, ClosedApart, OpenAlike}
 use Rattle.byte_sums.proofs.Closing.{closing-byte, closed-small}
 use Rattle.byte_sums.proofs.Words.{words-none, words-length, words-append}
 use Rattle.byte_sums.proofs.FromBytes.{bytes-from}

@@ -2,18 +2,15 @@
 -- Document 02, "Four", counts on it.
 use mathlib.Core.Path.{_≡_}
 use mathlib.Core.Logic.{_≢_}
-use mathlib.Core.List.{List, [], _∷_, _++_}
-use Prim.Native.Nat.{ℕ, _-_, _≤_, _<_}
-use lib.ListN.{length, getD, replicate}
+use mathlib.Core.List.{List, [], _∷_}
+use Prim.Native.Nat.{ℕ, _≤_, _<_}
+use lib.ListN.{length, getD}
+use Rattle.counts.specs.CommonKey.{filledUp}
 use Rattle.byte_sums.specs.Bytes.{inWords, wordsOf}
 
 -- a message of bytes, each below 256
 abbrev pub Bytes : List ℕ → Type 0
 Bytes xs = (i : ℕ) → getD xs i 0 < 256
-
--- words filled up with zero words to T of them
-unfoldable pub filledUp : ℕ → List ℕ → List ℕ
-filledUp T ms = ms ++ replicate (T - length ms) 0
 
 -- what a way to make words of bytes should do: two different messages make words that stay different when the shorter row
 -- is filled up with zero words, to any common length T. For every width of a byte or more

@@ -4,7 +4,6 @@ use mathlib.Core.Bool.{and-true}
 use mathlib.Core.List.{List, [], _∷_, head-eq-of-cons-eq}
 use Prim.Native.Nat.{ℕ, zero, suc, _+_, _*_, _/_, _%_, _≤_, _<_}
 use native.Mathlib.Nat.{le-refl, mul-zero}
-use native.Mathlib.Numerals.{add-one}
 use native.Mathlib.Omega.{arith}
 use borrow.Author.Tests.{lt-ltb}
 use Rattle.counts.specs.Count.{sumTo, count, overRows, asNumber, sameRow}
@@ -19,11 +18,6 @@ use Rattle.code.specs.Claims.{keysThatAgree, CodeBound}
 use Rattle.code.proofs.Agreeing.{code-bound}
 use Rattle.count_pairs.specs.Agree.{compared, agreeing, boundOf, Bounded, keyAt}
 use Rattle.count_pairs.specs.Table.{Tabled, sameAt, agreeingIn}
-
--- one more turn of a loop that adds f 0, f 1, ..
-pub sum-more : (f : ℕ → ℕ) (i n r : ℕ) → n ≡ sumTo i f → r ≡ f i → n + r ≡ sumTo (i + 1) f
-unfolding sumTo
-sum-more f i n r e h = rw (e, h, add-one i)
 
 -- the two parts of a place
 pub quotient : (a b : ℕ) → b < 128 → (a * 128 + b) / 128 ≡ a

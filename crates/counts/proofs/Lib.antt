@@ -11,3 +11,4 @@ pub mod Demand3
 pub mod Corollaries
 pub mod Laws
 pub mod Fits
+pub mod CommonKey

@@ -3,6 +3,7 @@
 use mathlib.Core.Path.{_≡_, refl, sym, ap, _∙_, fun-ext}
 use Prim.Native.Nat.{ℕ, zero, suc, _+_, _*_, _≤_, _<_}
 use native.Mathlib.Nat.{add-zero, add-suc, zero-mul, suc-mul, mul-add, add-mul, mul-zero, le-refl, add-le-add, le-step, lt-suc-self}
+use native.Mathlib.Numerals.{add-one}
 use native.Mathlib.Omega.{arith}
 use Rattle.counts.specs.Count.{sumTo}
 
@@ -81,3 +82,8 @@ sum-prod (suc a) b f =
 -- a sum of zeros
 pub sum-zeros : (n : ℕ) (f : ℕ → ℕ) → ((k : ℕ) → k < n → f k ≡ 0) → sumTo n f ≡ 0
 sum-zeros n f h = sum-cong-below n f (λ k. 0) h ∙ sum-const n 0 ∙ mul-zero n
+
+-- one more turn of a loop that adds f 0, f 1, ..
+pub sum-next : (f : ℕ → ℕ) (i n r : ℕ) → n ≡ sumTo i f → r ≡ f i → n + r ≡ sumTo (i + 1) f
+unfolding sumTo
+sum-next f i n r e h = rw (e, h, add-one i)

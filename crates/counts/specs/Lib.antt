@@ -2,3 +2,4 @@ pub mod Digest
 pub mod Count
 pub mod Claims
 pub mod Corollaries
+pub mod CommonKey

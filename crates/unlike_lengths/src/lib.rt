@@ -1,0 +1,1 @@
+// Labels of different length under one key: definitions and theorems, no code.
