@@ -59,27 +59,33 @@ fn matching_keys(first: &[u8], second: &[u8]) -> u32 {
     count
 }
 
-/// The count of the program `count_labels` for one label, with a call for each key.
-#[test]
-fn no_byte_and_one() {
-    assert_eq!(matching_keys(&[], &[0x11]), 65_536);
-}
+/// Counts over all keys. They make the same few calls millions of times, so `make test-memory` leaves
+/// them out.
+mod all_keys {
+    use super::{matching_keys, BOUND};
 
-/// The same for every label. It takes minutes.
-#[test]
-#[ignore = "takes minutes"]
-fn no_byte_and_each_one() {
-    for byte in 0..=255 {
-        assert_eq!(matching_keys(&[], &[byte]), 65_536, "label {byte}");
+    /// The count of the program `count_labels` for one label, with a call for each key.
+    #[test]
+    fn no_byte_and_one() {
+        assert_eq!(matching_keys(&[], &[0x11]), 65_536);
     }
-}
 
-/// Labels of one length come nearer to the bound, which is the same for them.
-#[test]
-fn two_labels_of_one_byte() {
-    let count = matching_keys(&[1], &[0x11]);
-    assert_eq!(count, 126_976);
-    assert!(count <= BOUND);
+    /// The same for every label.
+    #[test]
+    #[ignore = "takes minutes"]
+    fn no_byte_and_each_one() {
+        for byte in 0..=255 {
+            assert_eq!(matching_keys(&[], &[byte]), 65_536, "label {byte}");
+        }
+    }
+
+    /// Labels of one length come nearer to the bound, which is the same for them.
+    #[test]
+    fn two_labels_of_one_byte() {
+        let count = matching_keys(&[1], &[0x11]);
+        assert_eq!(count, 126_976);
+        assert!(count <= BOUND);
+    }
 }
 
 /// A label has under its first words of a key the digest that its words, filled up with zero words,

@@ -48,6 +48,7 @@ fn last_words() -> [u8; 256]
     row
 }
 
+// 1 where the label's digest, with what the last key word adds, is the one that is wanted, else 0.
 fn agrees(wanted: u8, start: u8, last: u8) -> u32
     ensures { λ r. ⌜ (r ≡ asNumber (eqb wanted ((start + last) % 256))) × (r ≤ 1) ⌝ }
 {
@@ -94,6 +95,7 @@ struct Best {
     labels: u32,
 }
 
+// The best with one label more.
 fn next(best: Best, label: u32, keys: u32) -> Best
     requires { ⌜ (label < 256) × ((keys ≡ keysOf label) × Largest keysOf label (best .largest) (best .first) (best .labels)) ⌝ }
     ensures { λ r. ⌜ Largest keysOf (label + 1) (r .largest) (r .first) (r .labels) ⌝ }
@@ -132,6 +134,7 @@ fn search() -> Best
     best
 }
 
+// How many keys the claims allow.
 fn most() -> u64
     ensures { λ r. ⌜ r ≡ bound 8 8 1 2 ⌝ }
 {

@@ -15,7 +15,7 @@ use Rattle.byte_sums.specs.Closed.{Bytes}
 use Rattle.digest.specs.Bytes.{bytesDigest}
 use Rattle.digest.specs.Match.{matchAnswer}
 
--- 02, "Two different byte messages close to at most T words each"; the width is 8, 16 or 32
+-- 02, "Four": two different labels that make at most T words each, closed; the width is 8, 16 or 32
 pub record Labels (w T : ℕ) (first second : List ℕ) : Type 0 where
   pub byte-width : badByteWidth w ≡ false
   pub bytes : Bytes first
@@ -24,7 +24,7 @@ pub record Labels (w T : ℕ) (first second : List ℕ) : Type 0 where
   pub few : length (wordsOf w first) ≤ T
   pub few′ : length (wordsOf w second) ≤ T
 
--- 02, "Over all keys of T + n words, each message takes as many first words as it needs": how many of them pass a test of the two digests
+-- 02, "Four": how many keys of T + n words pass a test of the two digests, each label under as many first words of the key as it needs
 unfoldable pub labelKeys : ℕ → ℕ → ℕ → ℕ → List ℕ → List ℕ → (List ℕ → List ℕ → Bool) → ℕ
 labelKeys w b n T first second test =
     count w (T + n)
@@ -39,7 +39,7 @@ labelKeysThatDiffer w b n T first second ds = labelKeys w b n T first second (λ
 unfoldable pub bound : ℕ → ℕ → ℕ → ℕ → ℕ
 bound w b n T = 2 ^ (w * T + n + n * (w - b))
 
--- 02, "Four": two different labels and any n named differences
+-- 02, "Four": any n named differences
 unfoldable pub LabelBoundAt : ℕ → ℕ → ℕ → ℕ → Type 0
 LabelBoundAt w b n T =
     (first second ds : List ℕ) → Labels w T first second → length ds ≡ n → labelKeysThatDiffer w b n T first second ds ≤ bound w b n T
