@@ -10,7 +10,7 @@ use Rattle.counts.specs.Digest.{digest}
 use Rattle.counts.specs.Count.{count, differBy}
 use Rattle.counts.specs.Claims.{Row}
 
--- words filled up with zero words to T of them
+-- 02, "Four", the filling up that unlike lengths are compared by: words with zero words after them, T in all
 unfoldable pub filledUp : ℕ → List ℕ → List ℕ
 filledUp T ms = ms ++ replicate (T - length ms) 0
 
@@ -19,11 +19,11 @@ unfoldable pub commonKeys : ℕ → ℕ → ℕ → ℕ → List ℕ → List �
 commonKeys w b n T first second test =
     count w (T + n) (λ ks. test (digest w b n first (take (length first + n) ks)) (digest w b n second (take (length second + n) ks)))
 
--- how many make the second message's digest differ from the first's by the numbers ds
+-- 02, "Four", with 01's "differ by": how many make the second message's digest differ from the first's by the numbers ds
 unfoldable pub commonKeysThatDiffer : ℕ → ℕ → ℕ → ℕ → List ℕ → List ℕ → List ℕ → ℕ
 commonKeysThatDiffer w b n T first second ds = commonKeys w b n T first second (λ x y. differBy b n x y ds)
 
--- the bound for two messages of at most T words, where they are apart in the sense given, and any n named differences
+-- 02, "Four": the bound for two messages of at most T words, where they are apart in the sense given, and any n named differences
 unfoldable pub BoundWhere : (ℕ → List ℕ → List ℕ → Type 0) → Type 0
 BoundWhere Apart =
     (w b n T t t′ : ℕ) (first second ds : List ℕ)

@@ -16,7 +16,7 @@ use Rattle.digest.specs.Bytes.{bytesAnswer, bytesRow}
 use Rattle.digest.specs.Match.{matchAnswer}
 use Rattle.unlike_lengths.specs.Labels.{Labels, bound}
 
--- how many keys of T + n words make the match of what two calls wrote, each into an output of its own, answer 100
+-- 01, "Match", and 02, "Four": how many keys of T + n words make the match of what two calls wrote, each into an output of its own, answer 100
 unfoldable pub labelCallsThatMatch : ℕ → ℕ → ℕ → ℕ → List ℕ → List ℕ → List ℕ → List ℕ → ℕ
 labelCallsThatMatch w b n T first second out out′ =
     count w (T + n)
@@ -38,7 +38,7 @@ FalseLabelCalls =
     → Labels w T first second
     → labelCallsThatMatch w b n T first second out out′ ≤ bound w b n T
 
--- under each of these keys the call is accepted
+-- 01, "Numbers the agent sees": under each of these keys the call is accepted
 unfoldable pub LabelAccepted : Type 0
 LabelAccepted =
     (w b n T : ℕ) (label ks out : List ℕ)

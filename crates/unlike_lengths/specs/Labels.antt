@@ -31,11 +31,11 @@ labelKeys w b n T first second test =
     (λ ks.
     test (bytesDigest w b n first (take (length (wordsOf w first) + n) ks)) (bytesDigest w b n second (take (length (wordsOf w second) + n) ks)))
 
--- how many make the second label's digest differ from the first's by the numbers ds
+-- 02, "Four", with 01's "differ by": how many make the second label's digest differ from the first's by the numbers ds
 unfoldable pub labelKeysThatDiffer : ℕ → ℕ → ℕ → ℕ → List ℕ → List ℕ → List ℕ → ℕ
 labelKeysThatDiffer w b n T first second ds = labelKeys w b n T first second (λ x y. differBy b n x y ds)
 
--- how many the document allows
+-- 02, "Four": how many the document allows
 unfoldable pub bound : ℕ → ℕ → ℕ → ℕ → ℕ
 bound w b n T = 2 ^ (w * T + n + n * (w - b))
 
@@ -44,19 +44,19 @@ unfoldable pub LabelBoundAt : ℕ → ℕ → ℕ → ℕ → Type 0
 LabelBoundAt w b n T =
     (first second ds : List ℕ) → Labels w T first second → length ds ≡ n → labelKeysThatDiffer w b n T first second ds ≤ bound w b n T
 
--- for every b ≤ w, every n and every T
+-- 02, "Four", for every b ≤ w, every n and every T
 unfoldable pub LabelBound : Type 0
 LabelBound = (w b n T : ℕ) → b ≤ w → LabelBoundAt w b n T
 
--- at the documents' ranges
+-- the same at the ranges of 01, "Settings", and of 02, "Four"
 unfoldable pub LabelBoundInRange : Type 0
 LabelBoundInRange = (w b n T : ℕ) → InRange w b n → T ≤ 65536 → LabelBoundAt w b n T
 
--- a label agrees with itself under every one of the 2^(w·(T + n)) keys: the bound is of different labels
+-- why 02, "Four", says "different": a label agrees with itself under every one of the 2^(w·(T + n)) keys
 unfoldable pub OneLabel : Type 0
 OneLabel = (w b n T : ℕ) (label : List ℕ) → labelKeysThatDiffer w b n T label label (replicate n 0) ≡ 2 ^ (w * (T + n))
 
--- how many keys make the match of the two digests answer 100
+-- 01, "Match": how many keys make the match of the two digests answer 100
 unfoldable pub labelKeysThatMatch : ℕ → ℕ → ℕ → ℕ → List ℕ → List ℕ → ℕ
 labelKeysThatMatch w b n T first second = labelKeys w b n T first second (λ x y. eqb (matchAnswer n x y) 100)
 
