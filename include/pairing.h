@@ -28,9 +28,9 @@
 
 /* The version of this header and of the library that goes with it. */
 #define PAIRING_VERSION_MAJOR 0
-#define PAIRING_VERSION_MINOR 3
+#define PAIRING_VERSION_MINOR 4
 #define PAIRING_VERSION_PATCH 0
-#define PAIRING_VERSION "0.3.0"
+#define PAIRING_VERSION "0.4.0"
 
 /* Makes a compiler that can warn do so where an answer is not used: a refused call
  * has written nothing. */
@@ -64,16 +64,19 @@ enum {
     PAIRING_KEPT = 2,
     /* Count: n is not 1 to 8. */
     PAIRING_COUNT = 3,
+    /* Peers: p is not 1 to 16. */
+    PAIRING_PEERS = 10,
     /* Long: the message has more than PAIRING_MOST_WORDS words, for bytes counted with
      * the closing byte; a stretch, more than PAIRING_MOST_KEY_WORDS. */
     PAIRING_LONG = 4,
     /* Key: the key does not have n words more than the message, for bytes counted with
-     * the closing byte; for a code, one word more. */
+     * the closing byte; for a code, one word more; the keys of a crew do not have p times
+     * as many words. */
     PAIRING_KEY = 5,
-    /* Tray: the output has fewer than n places, for a code fewer than (d + 1) / 2; in a
-     * match, a row is not n words. */
+    /* Tray: the output has fewer than n places, for a code fewer than (d + 1) / 2, for a
+     * crew fewer than p * n; in a match, a row is not n words. */
     PAIRING_TRAY = 6,
-    /* Word: a message or key word is 2^w or more. */
+    /* Word: a message or key word is 2^w or more; of a crew, a word of any key. */
     PAIRING_WORD = 7,
     /* Match: the two rows agree at every place. */
     PAIRING_MATCH = 100,
@@ -90,6 +93,9 @@ enum {
 
 /* The most words that a digest has, and so the largest n. */
 #define PAIRING_MOST_DIGEST_WORDS 8
+
+/* The most peers of a crew, and so the largest p. */
+#define PAIRING_MOST_PEERS 16
 
 /* The most digits that a code has, at widths 30 to 32, and the most bytes. */
 #define PAIRING_MOST_CODE_DIGITS 9
@@ -147,6 +153,25 @@ uint32_t pairing_digest_code(uint32_t w, uint32_t d,
                              const uint32_t *message, size_t message_words,
                              const uint32_t *key, size_t key_words,
                              uint8_t *out, size_t out_bytes);
+
+/*
+ * Digests the message under the keys of p peers, walking it once: the keys lie end to
+ * end, each of n words more than the message, and so do the digests, each of n words.
+ *
+ * Answers PAIRING_ACCEPTED with the p digests in the first p * n places of out, places
+ * beyond keeping what they held; or PAIRING_WIDTH, or one of PAIRING_KEPT to
+ * PAIRING_WORD, PAIRING_PEERS among them. Message and keys are only read.
+ *
+ * Digest i is what pairing_digest_words writes under key i alone, whatever the other
+ * keys are; of those, only a word of 2^w or more reaches it, by refusing the call for
+ * all. This is proved, of keys whose lengths together are right: the lengths of single
+ * keys are not seen here, so hand on only keys that have been measured.
+ */
+PAIRING_USE_ANSWER
+uint32_t pairing_digest_crew(uint32_t w, uint32_t b, uint32_t n, uint32_t p,
+                             const uint32_t *message, size_t message_words,
+                             const uint32_t *keys, size_t keys_words,
+                             uint32_t *out, size_t out_words);
 
 /*
  * Fills the whole of out with key words of w bits, each the low bits of the next

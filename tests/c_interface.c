@@ -293,6 +293,91 @@ static int code_refused(void)
     return 1;
 }
 
+/* The key's first three words, and its last three: the two digest words of the key as a whole. */
+static int crew_accepted(void)
+{
+    static const uint32_t keys[] = {10, 20, 100, 20, 100, 250};
+    uint32_t out[] = {1, 2, 3, 4};
+    const uint32_t due[] = {0xac, 0xff, 3, 4};
+    uint32_t answer = pairing_digest_crew(8, 8, 1, 2, message, WORDS(message), keys, WORDS(keys), out, WORDS(out));
+    return answer == PAIRING_ACCEPTED && memcmp(out, due, sizeof due) == 0;
+}
+
+/* Each row is the word digest under the peer's key, for every size of crew and digest. */
+static int crew_of_every_size(void)
+{
+    enum { MOST = PAIRING_MOST_PEERS, WIDE = PAIRING_MOST_DIGEST_WORDS, LONG = 67 };
+    static uint32_t words[LONG], keys[MOST * (LONG + WIDE)];
+    uint32_t p, n, q, word = 1;
+    size_t i;
+    for (i = 0; i < WORDS(words); i++)
+        words[i] = word = word * 1664525 + 1013904223;
+    for (i = 0; i < WORDS(keys); i++)
+        keys[i] = word = word * 1664525 + 1013904223;
+    for (p = 1; p <= MOST; p++)
+        for (n = 1; n <= WIDE; n++) {
+            uint32_t out[MOST * WIDE + 1] = {0}, own[WIDE];
+            size_t each = LONG + n;
+            out[p * n] = 9;
+            if (pairing_digest_crew(32, 32, n, p, words, LONG, keys, p * each, out, p * n) != PAIRING_ACCEPTED ||
+                out[p * n] != 9)
+                return 0;
+            for (q = 0; q < p; q++)
+                if (pairing_digest_words(32, 32, n, words, LONG, keys + q * each, each, own, n) != PAIRING_ACCEPTED ||
+                    memcmp(out + q * n, own, n * sizeof own[0]) != 0)
+                    return 0;
+        }
+    return 1;
+}
+
+static int crew_at_the_most_words(void)
+{
+    static uint32_t zeros[2 * (PAIRING_MOST_WORDS + 1)];
+    uint32_t out[] = {9, 9, 9};
+    return pairing_digest_crew(32, 32, 1, 2, zeros, PAIRING_MOST_WORDS + 1, zeros, WORDS(zeros), out, 2) ==
+               PAIRING_LONG &&
+           out[0] == 9 &&
+           pairing_digest_crew(32, 32, 1, 2, zeros, PAIRING_MOST_WORDS, zeros, WORDS(zeros), out, 2) ==
+               PAIRING_ACCEPTED &&
+           out[0] == 0 && out[1] == 0 && out[2] == 9;
+}
+
+static int crew_refused(void)
+{
+    static const uint32_t words[PAIRING_MOST_WORDS + 1] = {3, 7, 600}, keys[] = {10, 20, 100, 20, 100, 256, 1};
+    static const struct {
+        uint32_t due, w, b, n, p;
+        size_t message_words, keys_words, out_words;
+    } calls[] = {
+        {PAIRING_WIDTH, 0, 0, 0, 0, 2, 6, 2},
+        {PAIRING_KEPT, 8, 9, 0, 0, 2, 6, 2},
+        {PAIRING_COUNT, 8, 8, 9, 17, 2, 6, 2},
+        {PAIRING_COUNT, 8, 8, 0, 0, 2, 6, 2},
+        {PAIRING_PEERS, 8, 8, 1, 0, PAIRING_MOST_WORDS + 1, 0, 0},
+        {PAIRING_PEERS, 8, 8, 1, PAIRING_MOST_PEERS + 1, 2, 6, 2},
+        {PAIRING_PEERS, 8, 8, 1, UINT32_MAX, 2, 6, 2},
+        {PAIRING_LONG, 8, 8, 1, 2, PAIRING_MOST_WORDS + 1, 0, 0},
+        {PAIRING_KEY, 8, 8, 1, 2, 2, 5, 0},
+        {PAIRING_KEY, 8, 8, 1, 2, 2, 7, 2},
+        {PAIRING_KEY, 8, 8, 1, 2, 2, 3, 2},
+        {PAIRING_TRAY, 8, 8, 1, 2, 2, 6, 1},
+        {PAIRING_TRAY, 8, 8, 2, 1, 2, 4, 0},
+        /* the last word of the last key, then the message's */
+        {PAIRING_WORD, 8, 8, 1, 2, 2, 6, 2},
+        {PAIRING_WORD, 9, 9, 3, 1, 3, 6, 3},
+    };
+    size_t i;
+    for (i = 0; i < WORDS(calls); i++) {
+        uint32_t out[] = {11, 12, 13};
+        uint32_t answer = pairing_digest_crew(calls[i].w, calls[i].b, calls[i].n, calls[i].p, words,
+                                              calls[i].message_words, keys, calls[i].keys_words, out,
+                                              calls[i].out_words);
+        if (answer != calls[i].due || out[0] != 11 || out[1] != 12 || out[2] != 13)
+            return 0;
+    }
+    return 1;
+}
+
 /* The C++ standard fixes output 10,000 of seed 5489. */
 static int stretched(void)
 {
@@ -384,6 +469,17 @@ static int null_code(void)
            pairing_digest_code(0, 0, NULL, 0, NULL, 0, NULL, 0) == PAIRING_WIDTH;
 }
 
+static int null_crew(void)
+{
+    const uint32_t sevens[] = {7, 7};
+    uint32_t out[] = {9, 9, 9};
+    return pairing_digest_crew(8, 8, 1, 2, NULL, 0, sevens, 2, out, WORDS(out)) == PAIRING_ACCEPTED && out[0] == 0 &&
+           out[1] == 0 && out[2] == 9 && pairing_digest_crew(8, 8, 1, 2, NULL, 0, NULL, 0, NULL, 0) == PAIRING_KEY &&
+           pairing_digest_crew(8, 8, 1, 2, NULL, 0, sevens, 2, NULL, 0) == PAIRING_TRAY &&
+           pairing_digest_crew(8, 8, 1, 0, NULL, 0, NULL, 0, NULL, 0) == PAIRING_PEERS &&
+           pairing_digest_crew(0, 0, 0, 0, NULL, 0, NULL, 0, NULL, 0) == PAIRING_WIDTH;
+}
+
 static int version(void)
 {
     char text[32];
@@ -412,6 +508,10 @@ static const struct {
     {"code_digits", code_digits},
     {"code_at_the_most_words", code_at_the_most_words},
     {"code_refused", code_refused},
+    {"crew_accepted", crew_accepted},
+    {"crew_of_every_size", crew_of_every_size},
+    {"crew_at_the_most_words", crew_at_the_most_words},
+    {"crew_refused", crew_refused},
     {"stretched", stretched},
     {"stretched_to_the_most_words", stretched_to_the_most_words},
     {"stretch_refused", stretch_refused},
@@ -421,6 +521,7 @@ static const struct {
     {"null_rows", null_rows},
     {"null_bytes", null_bytes},
     {"null_code", null_code},
+    {"null_crew", null_crew},
     {"version", version},
 };
 

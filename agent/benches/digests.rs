@@ -1,6 +1,6 @@
 //! The proved word digest beside Rust loops, the proved byte digest and code beside the word digest
-//! of the same words, those of bytes with the closing one, and what calls of short messages take,
-//! each on one input in one run.
+//! of the same words, those of bytes with the closing one, a crew's digests beside as many word
+//! digests, and what calls of short messages take, each on one input in one run.
 //!
 //! Every Rust loop walks once over the message, for all digest words, and tests its words. (a) is a
 //! plain indexed loop. The best loop is the faster of (b) and (c), in which neighbouring digest
@@ -58,6 +58,20 @@ fn main() {
     println!("  words        code      digest    code / digest");
     for row in &rows {
         row.print();
+    }
+
+    println!("\nA crew of {PEERS} in one call, and {PEERS} word digests under the same keys.\n");
+    println!("  words   w  n        crew     digests    crew / digests");
+    for (words, w, n) in [
+        (WORDS, 32, 1),
+        (WORDS, 32, 2),
+        (WORDS, 32, 8),
+        (WORDS, 16, 1),
+        (WORDS, 16, 8),
+        (16, 32, 1),
+        (16, 32, 8),
+    ] {
+        CrewRow::measure(words, w, n).print();
     }
 
     println!(
@@ -479,6 +493,68 @@ impl CodeRow {
     }
 }
 
+/// The largest crew.
+const PEERS: usize = pairing_agent::MOST_PEERS;
+
+/// The digests of a crew in one call, and by a word digest for each peer.
+struct CrewRow {
+    words: usize,
+    w: u32,
+    n: usize,
+    times: [Times; 2],
+}
+
+impl CrewRow {
+    /// As for codes, a turn of short messages makes more calls than one.
+    fn measure(words: usize, w: u32, n: usize) -> CrewRow {
+        let (message, _) = input(w, n);
+        let message = &message[..words];
+        let keys: Vec<u32> = (1..=PEERS as u64)
+            .flat_map(|seed| random_words(seed, w, words + n))
+            .collect();
+        let (mut crew, mut digests) = (vec![0; PEERS * n], vec![1; PEERS * n]);
+        let times = race([
+            Box::new(|| {
+                for _ in 0..Self::calls(words) {
+                    let (settings, peers) = (settings(black_box(w), n), PEERS as u32);
+                    pairing_agent::digest_crew(
+                        settings,
+                        peers,
+                        message,
+                        &keys,
+                        black_box(&mut crew),
+                    )
+                    .expect("the input is fit");
+                }
+            }),
+            Box::new(|| {
+                for _ in 0..Self::calls(words) {
+                    for (key, row) in keys.chunks(words + n).zip(digests.chunks_mut(n)) {
+                        library(black_box(w), message, key, black_box(row));
+                    }
+                }
+            }),
+        ]);
+        assert_eq!(crew, digests, "the digests differ");
+        CrewRow { words, w, n, times }
+    }
+
+    fn calls(words: usize) -> usize {
+        (1_000 / words).max(1)
+    }
+
+    fn print(&self) {
+        let [crew, digests] = &self.times;
+        print!("{:7}  {:2} {:2}", self.words, self.w, self.n);
+        for times in [crew, digests] {
+            let calls = Self::calls(self.words) as f64;
+            print!("  {:7.1} us", times.fastest.as_secs_f64() * 1e6 / calls);
+        }
+        let [fastest, median] = ratios([crew, digests]);
+        println!("       {fastest:.2} ({median:.2})");
+    }
+}
+
 /// Calls of a batch: one of a short message is too short for the clock.
 const BATCH: usize = 1_000;
 
@@ -527,16 +603,20 @@ impl ShortRow {
 
 /// A message and a key of random words below 2^w, the same in every run.
 fn input(w: u32, n: usize) -> (Vec<u32>, Vec<u32>) {
-    let mut state = 1u64;
-    let mut row = |words: usize| -> Vec<u32> {
-        let word = |_| {
-            // A linear congruential generator; its upper half is random enough to multiply.
-            state = state
-                .wrapping_mul(6_364_136_223_846_793_005)
-                .wrapping_add(1);
-            (state >> 32) as u32 >> (32 - w)
-        };
-        (0..words).map(word).collect()
+    let mut message = random_words(1, w, 2 * WORDS + n);
+    let key = message.split_off(WORDS);
+    (message, key)
+}
+
+/// Random words below 2^w, the same in every run.
+fn random_words(seed: u64, w: u32, words: usize) -> Vec<u32> {
+    let mut state = seed;
+    let word = |_| {
+        // A linear congruential generator; its upper half is random enough to multiply.
+        state = state
+            .wrapping_mul(6_364_136_223_846_793_005)
+            .wrapping_add(1);
+        (state >> 32) as u32 >> (32 - w)
     };
-    (row(WORDS), row(WORDS + n))
+    (0..words).map(word).collect()
 }

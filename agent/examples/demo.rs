@@ -1,9 +1,10 @@
 //! A scanner and a depot pair, through the proved library: once as it should go, once with a label
-//! altered on the way, once with a label of the wrong length.
+//! altered on the way, once with a label of the wrong length. Then a crew pairs together.
 
 #![forbid(unsafe_code)]
 
-use pairing_agent::{digest_bytes, digests_match, stretch, Refusal, Settings};
+use pairing_agent::{digest_bytes, digest_crew, digest_words};
+use pairing_agent::{digests_match, stretch, Refusal, Settings};
 
 /// What both ends have agreed on.
 const SETTINGS: Settings = Settings {
@@ -29,6 +30,10 @@ fn main() {
         for line in pairing(&arrived) {
             println!("   {line}");
         }
+    }
+    println!("\n4. A crew of scanners pairs with a shift leader, who digests for all in one call");
+    for line in crew().expect("the crew is fit") {
+        println!("   {line}");
     }
 }
 
@@ -87,6 +92,43 @@ fn digest(label: &str, key_words: usize) -> Result<[u32; SETTINGS.words as usize
     Ok(digest)
 }
 
+/// The message of a crew, in words: depot, gate, shift.
+const SHIFT: [u32; 3] = [7, 2, 20_241_116];
+
+/// A seed for each scanner of a crew.
+const CREW: [u32; 3] = [0x5eed_0451, 0x5eed_0452, 0x5eed_0453];
+
+/// Each scanner digests under its own key; the leader holds the keys of all, and digests once.
+fn crew() -> Result<Vec<String>, Refusal> {
+    const WORDS: usize = SETTINGS.words as usize;
+    let mut keys = [[0; SHIFT.len() + WORDS]; CREW.len()];
+    for (key, seed) in keys.iter_mut().zip(CREW) {
+        stretch(SETTINGS.width, seed, key)?;
+    }
+    let mut rows = [0; CREW.len() * WORDS];
+    digest_crew(
+        SETTINGS,
+        CREW.len() as u32,
+        &SHIFT,
+        &keys.concat(),
+        &mut rows,
+    )?;
+    let mut lines = vec![];
+    for (place, (key, row)) in keys.iter().zip(rows.chunks(WORDS)).enumerate() {
+        let mut own = [0; WORDS];
+        digest_words(SETTINGS, &SHIFT, key, &mut own)?;
+        let paired = match digests_match(SETTINGS.words, &own, row)? {
+            true => "match",
+            false => "no match",
+        };
+        let (place, own, row) = (place + 1, shown(&own), shown(row));
+        lines.push(format!(
+            "scanner {place}         {own}, leader {row}: {paired}"
+        ));
+    }
+    Ok(lines)
+}
+
 fn shown(digest: &[u32]) -> String {
     let words: Vec<_> = digest.iter().map(|word| format!("{word:08x}")).collect();
     words.join(" ")
@@ -109,4 +151,11 @@ fn the_agent_issues_one_key() {
     );
     let advice = format!("advice            {}", Refusal::Key);
     assert_eq!(told[2].last(), Some(&advice));
+}
+
+#[test]
+fn every_scanner_of_the_crew_pairs() {
+    let lines = crew().unwrap();
+    assert_eq!(lines.len(), CREW.len());
+    assert!(lines.iter().all(|line| line.ends_with(": match")));
 }

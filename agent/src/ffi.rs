@@ -45,6 +45,19 @@ mod entry {
             out_bytes: usize,
         ) -> u32;
 
+        pub fn pairing_digest_crew(
+            w: u32,
+            b: u32,
+            n: u32,
+            p: u32,
+            message: *const u32,
+            message_words: usize,
+            keys: *const u32,
+            keys_words: usize,
+            out: *mut u32,
+            out_words: usize,
+        ) -> u32;
+
         pub fn pairing_stretch(w: u32, seed: u32, out: *mut u32, out_words: usize) -> u32;
 
         pub fn pairing_match(
@@ -118,6 +131,32 @@ pub fn digest_code(width: u32, digits: u32, message: &[u32], key: &[u32], out: &
             message.len(),
             key.as_ptr(),
             key.len(),
+            out.as_mut_ptr(),
+            out.len(),
+        )
+    }
+}
+
+/// The number that `pairing_digest_crew` answers: 0 with the digests in `out`, or a refusal's.
+#[must_use]
+pub fn digest_crew(
+    settings: Settings,
+    peers: u32,
+    message: &[u32],
+    keys: &[u32],
+    out: &mut [u32],
+) -> u32 {
+    // SAFETY: each pointer and length is one slice's; `out` is borrowed apart from the others.
+    unsafe {
+        entry::pairing_digest_crew(
+            settings.width,
+            settings.kept,
+            settings.words,
+            peers,
+            message.as_ptr(),
+            message.len(),
+            keys.as_ptr(),
+            keys.len(),
             out.as_mut_ptr(),
             out.len(),
         )

@@ -25,7 +25,8 @@
 //! Bytes are closed, so the first count holds of different bytes of any lengths: over all keys of
 //! T + n words, where both make at most T words and each is digested under as many first words of
 //! the key as it needs, at most 2^(w·T + n + n·(w−b)) make them agree. A key that [`stretch`] makes
-//! is one of at most 2^32, and no count is proved for those.
+//! is one of at most 2^32, and no count is proved for those. Each row of a crew is the digest under
+//! one peer's key alone, so each peer has these counts.
 
 #![deny(unsafe_code)]
 #![deny(missing_docs)]
@@ -49,6 +50,9 @@ pub const MOST_KEY_WORDS: usize = 65_544;
 
 /// The most words of a digest.
 pub const MOST_DIGEST_WORDS: usize = 8;
+
+/// The most peers of a crew.
+pub const MOST_PEERS: usize = 16;
 
 /// Writes the digest of `message` under `key` into the first places of `out`, one for each digest
 /// word.
@@ -147,6 +151,43 @@ pub fn digest_code(
     out: &mut [u8],
 ) -> Result<(), Refusal> {
     written(ffi::digest_code(width, digits, message, key, out))
+}
+
+/// Writes the digests of `message` under the keys of `peers` peers into the first places of `out`:
+/// row after row, one for each peer.
+///
+/// The keys lie end to end in `keys`, each of [`Settings::key_words`] words. Row i is the digest
+/// that [`digest_words`] writes under key i alone, and of the other keys only a word that is too
+/// large can reach it, by refusing the call for all: both are proved. Places of `out` beyond the
+/// rows keep what they held.
+///
+/// The lengths of single keys are not seen here. Where two of them are wrong and make up for each
+/// other, each key begins in another's words: hand on only keys that have been measured.
+///
+/// ```
+/// use pairing_agent::{digest_crew, Settings};
+///
+/// // Two peers, a message of two words, and a key of three for each.
+/// let settings = Settings { width: 8, kept: 8, words: 1 };
+/// let keys = [[10, 20, 100], [20, 100, 250]].concat();
+/// let mut digests = [0; 2];
+/// digest_crew(settings, 2, &[3, 7], &keys, &mut digests)?;
+/// assert_eq!(digests, [0xac, 0xff]);
+/// # Ok::<(), pairing_agent::Refusal>(())
+/// ```
+///
+/// # Errors
+///
+/// `Width`, or `Kept` to `Word` with `Peers` after `Count`, as the library's tests find; `out` then
+/// holds what it held.
+pub fn digest_crew(
+    settings: Settings,
+    peers: u32,
+    message: &[u32],
+    keys: &[u32],
+    out: &mut [u32],
+) -> Result<(), Refusal> {
+    written(ffi::digest_crew(settings, peers, message, keys, out))
 }
 
 /// Fills the whole of `key` with words of `width` bits, each from the next output of MT19937 made

@@ -21,6 +21,8 @@ pub enum Refusal {
     Kept = 2,
     /// The digest is not to have 1 to 8 words.
     Count = 3,
+    /// The crew is not of 1 to 16 peers.
+    Peers = 10,
     /// The message, or the row to stretch into, is too long.
     Long = 4,
     /// The key's length does not go with the message's.
@@ -33,12 +35,13 @@ pub enum Refusal {
 
 impl Refusal {
     /// Every refusal, in the order of the tests.
-    pub const ALL: [Refusal; 9] = [
+    pub const ALL: [Refusal; 10] = [
         Refusal::State,
         Refusal::Width,
         Refusal::Digits,
         Refusal::Kept,
         Refusal::Count,
+        Refusal::Peers,
         Refusal::Long,
         Refusal::Key,
         Refusal::Tray,
@@ -65,8 +68,8 @@ impl Refusal {
         match self {
             Refusal::State => {
                 "The state of a stream or generator holds a number outside its range, or something \
-                 in a place not in use. Digest, code, match and stretch take no state and never \
-                 answer this."
+                 in a place not in use. Digest, code, crew, match and stretch take no state and \
+                 never answer this."
             }
             Refusal::Width => {
                 "The width w is 0 or more than 32; for bytes, it is none of 8, 16 and 32."
@@ -77,14 +80,16 @@ impl Refusal {
             }
             Refusal::Kept => "The kept bits b are 0, or more than the width w.",
             Refusal::Count => "The digest words n are 0, or more than 8.",
+            Refusal::Peers => "The peers p of a crew are 0, or more than 16.",
             Refusal::Long => {
                 "The message has more than 65,536 words, for bytes counted with the closing byte \
                  0x80, or a key of more than 65,544 is stretched."
             }
             Refusal::Key => {
                 "The key does not have exactly n words more than the message, for bytes counted \
-                 with the closing byte 0x80, or for a code one word more. In a stream: the opening \
-                 key does not have n words, or a push has more words of one kind than of the other."
+                 with the closing byte 0x80, or for a code one word more; or the keys of a crew do \
+                 not have p times as many words. In a stream: the opening key does not have n \
+                 words, or a push has more words of one kind than of the other."
             }
             Refusal::Tray => {
                 "The output has fewer places than the call writes. In a match: a row does not have \
@@ -107,6 +112,7 @@ impl fmt::Display for Refusal {
             }
             Refusal::Kept => "wrong kept bits: keep at least 1 bit and no more than the width",
             Refusal::Count => "wrong digest size: ask for 1 to 8 digest words",
+            Refusal::Peers => "wrong crew size: pair 1 to 16 peers at a time",
             Refusal::Long => "too long: shorten the message, or stretch into a shorter row",
             Refusal::Key => {
                 "wrong lengths: the key does not go with the message; \
@@ -134,11 +140,11 @@ mod tests {
     fn numbers_and_refusals_go_together() {
         let mut numbers = Refusal::ALL.map(Refusal::number);
         numbers.sort_unstable();
-        assert_eq!(numbers, [1, 2, 3, 4, 5, 6, 7, 8, 9]);
+        assert_eq!(numbers, [1, 2, 3, 4, 5, 6, 7, 8, 9, 10]);
         for refusal in Refusal::ALL {
             assert_eq!(Refusal::from_number(refusal.number()), Some(refusal));
         }
-        for number in [0, 10, 11, 99, 100, 101, 256 + 1, u32::MAX] {
+        for number in [0, 11, 12, 99, 100, 101, 256 + 1, u32::MAX] {
             assert_eq!(Refusal::from_number(number), None);
         }
     }

@@ -57,6 +57,14 @@ fn digest_code() {
     });
 }
 
+/// A crew's rows are longer, so its long ones are rarer.
+#[test]
+fn digest_crew() {
+    tally(20_250_306, &[0, 1, 2, 3, 4, 5, 6, 7, 10], |random| {
+        cases::crew(random, 8 * RARE)
+    });
+}
+
 #[test]
 fn stretch() {
     tally(20_250_304, &[0, 1, 4], |random| {

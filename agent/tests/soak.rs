@@ -1,5 +1,5 @@
 //! Ten million random calls through the C interface against independent implementations: for
-//! bytes, codes and the stretch, others than those that the other tests compare with.
+//! bytes, codes, crews and the stretch, others than those that the other tests compare with.
 //!
 //! Not part of the gate: `make soak` runs it. It stops after ten minutes and says how far it came.
 //! PAIRING_SOAK_CALLS and PAIRING_SOAK_SEED set other numbers.
@@ -8,7 +8,7 @@
 
 mod common;
 
-use common::calls::{settings, Call, Code, Digest, Stretch};
+use common::calls::{settings, Call, Code, Crew, Digest, Stretch};
 use common::paper::{self, Outcome};
 use common::random::Random;
 use common::{cases, from_environment};
@@ -65,7 +65,11 @@ struct Tally {
 
 impl Tally {
     fn make_a_call(&mut self, random: &mut Random) {
-        match random.below(12) {
+        match random.below(13) {
+            12 => {
+                let call = cases::crew(random, 8 * RARE);
+                self.make(&call, &crew_due(&call), random);
+            }
             0..=3 => {
                 let call = cases::digest::<u32>(random, RARE);
                 self.make(&call, &call.due(), random);
@@ -123,6 +127,42 @@ fn bytes_due(call: &Digest<u8>) -> Outcome {
     let last = word(left) + 0x80 * 256u32.pow(left.len() as u32);
     let words: Vec<u32> = full.map(word).chain([last]).collect();
     paper::digest_words(call.settings, &words, &call.key, &call.out)
+}
+
+/// What the crew must leave: the word digests under each key, by a call of its own for each peer. A
+/// key that is refused refuses them all, and the words of every key are looked at first.
+fn crew_due(call: &Crew) -> Outcome {
+    let Crew {
+        settings, peers, ..
+    } = *call;
+    let n = settings.words as usize;
+    // The tests of the settings come before all others, and those of the rows after Peers.
+    let settings_alone = paper::digest_words(settings, &[], &vec![0; n.min(9)], &vec![0; n.min(9)]);
+    if (1..=3).contains(&settings_alone.answer) {
+        return refused(settings_alone.answer, &call.out);
+    }
+    if !(1..=16).contains(&peers) {
+        return refused(10, &call.out);
+    }
+    let words = call.message.len() + n;
+    if call.message.len() > paper::MOST_WORDS {
+        return refused(4, &call.out);
+    }
+    if call.keys.len() != peers as usize * words {
+        return refused(5, &call.out);
+    }
+    if call.out.len() < peers as usize * n {
+        return refused(6, &call.out);
+    }
+    let mut out = call.out.clone();
+    for (key, row) in call.keys.chunks(words).zip(out.chunks_mut(n)) {
+        let digest = paper::digest_words(settings, &call.message, key, row);
+        if digest.answer != 0 {
+            return refused(digest.answer, &call.out);
+        }
+        row.copy_from_slice(&digest.out);
+    }
+    Outcome { answer: 0, out }
 }
 
 /// What the code must leave: the digits of the word digest, each found by a division of its own.

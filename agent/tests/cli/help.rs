@@ -1,9 +1,9 @@
 //! Help, and the version.
 
 use crate::run::accepted;
-use pairing_agent::{MOST_CODE_DIGITS, MOST_DIGEST_WORDS, MOST_KEY_WORDS};
+use pairing_agent::{MOST_CODE_DIGITS, MOST_DIGEST_WORDS, MOST_KEY_WORDS, MOST_PEERS};
 
-const COMMANDS: [(&str, &[&str]); 7] = [
+const COMMANDS: [(&str, &[&str]); 8] = [
     (
         "digest",
         &["--width", "--kept", "--words", "--seed", "--key"],
@@ -13,6 +13,7 @@ const COMMANDS: [(&str, &[&str]); 7] = [
         &["--width", "--kept", "--words", "--seed", "--key"],
     ),
     ("code", &["--width", "--digits", "--seed", "--key"]),
+    ("crew", &["--width", "--kept", "--words", "--seeds"]),
     ("stretch", &["--width", "--seed"]),
     ("match", &["--words"]),
     ("count", &["--width", "--svg"]),
@@ -75,6 +76,10 @@ fn help_has_the_limits_and_what_is_proved() {
     assert!(code.contains(&digits), "{code}");
     let proved = "This is proved for keys drawn uniformly, and not for stretched ones.\n";
     assert!(code.ends_with(&format!("\ndown. {proved}")), "{code}");
+
+    let crew = accepted(&["crew", "--help"], b"");
+    let peers = format!("message; 1 to {MOST_PEERS} of them\n");
+    assert!(crew.contains(&peers), "{crew}");
 
     let stretch = accepted(&["stretch", "--help"], b"");
     let count = format!("how many words, up to {MOST_KEY_WORDS}\n");

@@ -4,6 +4,7 @@
 
 mod codes;
 mod count;
+mod crews;
 mod digests;
 mod explain;
 mod files;

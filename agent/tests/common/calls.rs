@@ -268,6 +268,78 @@ impl Call for Code {
     }
 }
 
+/// A call of a crew's digests.
+#[derive(Clone, Debug)]
+pub struct Crew {
+    pub settings: Settings,
+    pub peers: u32,
+    pub message: Vec<u32>,
+    pub keys: Vec<u32>,
+    pub out: Vec<u32>,
+}
+
+impl Crew {
+    /// A call that is accepted, of that many peers and message words.
+    pub fn fit(settings: Settings, peers: u32, words: usize) -> Crew {
+        let n = settings.words as usize;
+        let mut random = Random::new(u64::from(settings.width) + 100 * words as u64);
+        let mut row = |words| -> Vec<u32> {
+            let word = |_| random.word() >> (32 - settings.width);
+            (0..words).map(word).collect()
+        };
+        Crew {
+            settings,
+            peers,
+            message: row(words),
+            keys: row(peers as usize * (words + n)),
+            out: vec![0xdead_beef; peers as usize * n],
+        }
+    }
+
+    /// The keys one by one.
+    pub fn key_rows(&self) -> impl Iterator<Item = &[u32]> {
+        let n = self.settings.words as usize;
+        self.keys.chunks(self.message.len() + n)
+    }
+
+    fn rows(&self) -> Rows<'_, u32, u32> {
+        Rows {
+            message: &self.message,
+            key: &self.keys,
+            out: &self.out,
+        }
+    }
+}
+
+impl Call for Crew {
+    const ENTRY: &'static str = "digest_crew";
+    type Place = u32;
+
+    fn due(&self) -> Outcome {
+        let Crew { message, keys, .. } = self;
+        paper::digest_crew(self.settings, self.peers, message, keys, &self.out)
+    }
+
+    fn number(&self, due: &Outcome, random: &mut Random) -> Made {
+        self.rows().number(due, random, |message, keys, out| {
+            ffi::digest_crew(self.settings, self.peers, message, keys, out)
+        })
+    }
+
+    fn result(&self, due: &Outcome) -> Made {
+        self.rows().result(due, |message, keys, out| {
+            pairing_agent::digest_crew(self.settings, self.peers, message, keys, out)
+        })
+    }
+
+    fn sizes(&self) -> String {
+        let Crew {
+            settings, peers, ..
+        } = self;
+        format!("{settings:?}, {peers} peers, {}", self.rows().sizes())
+    }
+}
+
 /// A call of the stretch.
 #[derive(Clone, Debug)]
 pub struct Stretch {

@@ -2,7 +2,7 @@
 //!
 //! `rare` makes long rows that many times rarer, for tests that make more calls.
 
-use super::calls::{self, Code, Digest, Match, Stretch};
+use super::calls::{self, Code, Crew, Digest, Match, Stretch};
 use super::paper;
 use super::part::Part;
 use super::random::Random;
@@ -72,35 +72,64 @@ impl Drawn for u8 {
 pub fn digest<P: Drawn>(random: &mut Random, rare: usize) -> Digest<P> {
     let faults = Faults::random(random);
     let fit_width = P::fit_width(random);
+    let settings = settings::<P>(random, faults, fit_width);
+    // A count of words that can be lent, whatever the settings say.
+    let n = settings.words.min(20) as usize;
+    with_rows(random, faults, rare, settings, fit_width, |t| t + n, n)
+}
+
+/// A call of a crew's digests.
+pub fn crew(random: &mut Random, rare: usize) -> Crew {
+    let faults = Faults::random(random);
+    let fit_width = u32::fit_width(random);
+    let settings = settings::<u32>(random, faults, fit_width);
+    let peers = if faults.once_in(6, random) {
+        outside(random, 17)
+    } else {
+        1 + random.below(16) as u32
+    };
+    // As many as can be lent, whatever the numbers say.
+    let n = settings.words.min(20) as usize;
+    let p = peers.min(20) as usize;
+    let key_words = |t| p * (t + n);
+    let rows = with_rows(random, faults, rare, settings, fit_width, key_words, p * n);
+    Crew {
+        settings,
+        peers,
+        message: rows.message,
+        keys: rows.key,
+        out: rows.out,
+    }
+}
+
+fn settings<P: Drawn>(random: &mut Random, faults: Faults, fit_width: u32) -> Settings {
     let width = if faults.once_in(6, random) {
         P::unfit_width(random)
     } else {
         fit_width
     };
-    let settings = Settings {
+    Settings {
         width,
         kept: kept(random, faults, width),
         words: count(random, faults),
-    };
-    // A count of words that can be lent, whatever the settings say.
-    let n = settings.words.min(20) as usize;
-    with_rows(random, faults, rare, settings, fit_width, [n, n])
+    }
 }
 
-/// A call with those settings. But for the faults, its rows are fit at the fit width: the key is so
-/// much longer than the message, and so many places are written.
+/// A call with those settings. But for the faults, its rows are fit at the fit width: the key has so
+/// many words for so many of the message, and so many places are written.
 fn with_rows<P: Drawn>(
     random: &mut Random,
     faults: Faults,
     rare: usize,
     settings: Settings,
     fit_width: u32,
-    [longer, written]: [usize; 2],
+    key_words: impl Fn(usize) -> usize,
+    written: usize,
 ) -> Digest<P> {
     let width = settings.width;
     let parts = message_length::<P>(random, faults, rare, fit_width);
     let words = P::words_made(fit_width, parts);
-    let key_words = key_length(random, faults, [words + longer, parts + longer]);
+    let key_words = key_length(random, faults, [key_words(words), key_words(parts)]);
     // Often the same for both rows, so that largest words meet.
     let style = random.below(8);
     let key_style = [style, random.below(8)][random.below(2)];
@@ -194,7 +223,7 @@ pub fn code(random: &mut Random, rare: usize) -> Code {
     // As many bytes as can be lent, whatever the digits are.
     let bytes = digits.div_ceil(2).min(20) as usize;
     let settings = calls::settings(width, width, 1);
-    let rows = with_rows::<u32>(random, faults, rare, settings, fit_width, [1, bytes]);
+    let rows = with_rows::<u32>(random, faults, rare, settings, fit_width, |t| t + 1, bytes);
     Code {
         width,
         digits,

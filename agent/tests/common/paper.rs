@@ -30,33 +30,41 @@ pub fn digest_words(settings: Settings, message: &[u32], key: &[u32], out: &[u32
 }
 
 fn digest_answer(settings: Settings, message: &[u32], key: &[u32], places: usize) -> u32 {
-    let (w, b) = (settings.width, settings.kept);
     let n = settings.words as usize;
-    if w == 0 || w > 32 {
-        return 1;
+    match settings_answer(settings) {
+        0 => rows_answer(settings.width, message, key, [message.len() + n, n], places),
+        refusal => refusal,
     }
-    if b == 0 || b > w {
-        return 2;
-    }
-    if n == 0 || n > 8 {
-        return 3;
-    }
-    rows_answer(w, message, key, [n, n], places)
 }
 
-/// The tests of the rows, 4 to 7, of a call at a fit width. The key is so much longer than the
-/// message, and so many places are written.
+/// The tests of the settings, 1 to 3.
+fn settings_answer(settings: Settings) -> u32 {
+    let Settings { width, kept, words } = settings;
+    if width == 0 || width > 32 {
+        return 1;
+    }
+    if kept == 0 || kept > width {
+        return 2;
+    }
+    if words == 0 || words > 8 {
+        return 3;
+    }
+    0
+}
+
+/// The tests of the rows, 4 to 7, of a call at a fit width. The key has so many words, and so many
+/// places are written.
 fn rows_answer(
     w: u32,
     message: &[u32],
     key: &[u32],
-    [longer, written]: [usize; 2],
+    [key_words, written]: [usize; 2],
     places: usize,
 ) -> u32 {
     if message.len() > MOST_WORDS {
         return 4;
     }
-    if key.len() != message.len() + longer {
+    if key.len() != key_words {
         return 5;
     }
     if places < written {
@@ -69,6 +77,40 @@ fn rows_answer(
         }
     }
     0
+}
+
+/// The digests of a crew as a whole call: those of each peer's own part of the keys, end to end.
+pub fn digest_crew(
+    settings: Settings,
+    p: u32,
+    message: &[u32],
+    keys: &[u32],
+    out: &[u32],
+) -> Outcome {
+    let answer = crew_answer(settings, p, message, keys, out.len());
+    let mut out = out.to_vec();
+    if answer == 0 {
+        let mut digests = vec![];
+        for key in keys.chunks(message.len() + settings.words as usize) {
+            for i in 1..=settings.words as usize {
+                digests.push(digest_word(settings, i, message, key));
+            }
+        }
+        out[..digests.len()].copy_from_slice(&digests);
+    }
+    Outcome { answer, out }
+}
+
+fn crew_answer(settings: Settings, p: u32, message: &[u32], keys: &[u32], places: usize) -> u32 {
+    match settings_answer(settings) {
+        0 if p == 0 || p > 16 => 10,
+        0 => {
+            let (n, p) = (settings.words as usize, p as usize);
+            let lengths = [p * (message.len() + n), p * n];
+            rows_answer(settings.width, message, keys, lengths, places)
+        }
+        refusal => refusal,
+    }
 }
 
 /// The byte digest as a whole call: but for the width, the digest of the words that the bytes make.
@@ -125,7 +167,7 @@ fn code_answer(w: u32, d: u32, message: &[u32], key: &[u32], places: usize) -> u
         return 9;
     }
     let bytes = d.div_ceil(2) as usize;
-    rows_answer(w, message, key, [1, bytes], places)
+    rows_answer(w, message, key, [message.len() + 1, bytes], places)
 }
 
 /// The most digits of a code: 10^d is not above 2^w. Widths 1 to 3 have none.

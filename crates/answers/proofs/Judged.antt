@@ -10,7 +10,7 @@ use borrow.Author.Tests.{le-ltb, eq-eqb, ne-eqb, ltb-false, eqb-true, eqb-false,
 use Rattle.counts.specs.Digest.{fits}
 use Rattle.counts.specs.Corollaries.{InRange}
 use Rattle.answers.specs.Answers.{Test, test, firstOf, Judges, noneOf}
-use Rattle.answers.specs.Table.{badWidth, badByteWidth, badKept, badCount, tooLong, badKey, smallTray, badRows, badWords, badDigits, wordTest}
+use Rattle.answers.specs.Table.{badWidth, badByteWidth, badKept, badCount, tooLong, badKey, smallTray, badRows, badWords, badDigits, badPeers, wordTest}
 use Rattle.counts.proofs.Fits.{both}
 
 -- r is what the row's function answers, x what the tests after it give
@@ -128,6 +128,15 @@ module _ (n : ℕ) where
   pub rows-pass : (x y : ℕ) → x ≡ n → y ≡ n → badRows n x y ≡ false
   unfolding badRows
   rows-pass x y h k = rw (eq-eqb x n h, eq-eqb y n k)
+
+module _ (p : ℕ) where
+  pub peers-passed : badPeers p ≡ false → (1 ≤ p) × (p ≤ 16)
+  unfolding badPeers
+  peers-passed e = let h = either (ltb p 1) (ltb 16 p) e in (ltb-false p 1 (h .0), ltb-false 16 p (h .1))
+
+  pub peers-pass : 1 ≤ p → p ≤ 16 → badPeers p ≡ false
+  unfolding badPeers
+  peers-pass h k = rw (le-ltb p 1 h, le-ltb 16 p k)
 
 -- the most, or as many as are asked, against what there is
 module _ (a x : ℕ) where

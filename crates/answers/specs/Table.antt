@@ -1,5 +1,5 @@
 -- The rows of document 01's table "Numbers the agent sees": for each the condition, and the test with its number.
--- A call's answer lists its tests in the order in which the document has them tested. 10 to 21 belong to later calls.
+-- A call's answer lists its tests in the order in which the document has them tested. 11 to 21 belong to later calls.
 use mathlib.Core.Bool.{Bool, not, _&&_, _||_}
 use mathlib.Core.List.{List, _++_}
 use Prim.Native.Nat.{ℕ, _^_}
@@ -86,6 +86,13 @@ badDigits w d = eqb d 0 || ltb (2 ^ w) (10 ^ d)
 
 abbrev pub digitsTest : ℕ → ℕ → Test
 digitsTest w d = test 9 (badDigits w d)
+
+-- 10 Peers (02, "Five"): p is not 1..16
+unfoldable pub badPeers : ℕ → Bool
+badPeers p = ltb p 1 || ltb 16 p
+
+abbrev pub peersTest : ℕ → Test
+peersTest p = test 10 (badPeers p)
 
 -- 8 State, a row of a state: n words below 2^w, and every unused place zero, the only number below 2^0
 unfoldable pub fitRow : ℕ → ℕ → List ℕ → Bool

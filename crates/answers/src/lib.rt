@@ -3,7 +3,7 @@ pub mod decimal;
 pub mod range;
 pub mod table;
 
-// 0 is an accepted call. 10 to 21 belong to later calls.
+// 0 is an accepted call. 11 to 21 belong to later calls.
 pub const WIDTH: u32 = 1;
 
 pub const KEPT: u32 = 2;
@@ -21,6 +21,8 @@ pub const WORD: u32 = 7;
 pub const STATE: u32 = 8;
 
 pub const DIGITS: u32 = 9;
+
+pub const PEERS: u32 = 10;
 
 pub const MATCH: u32 = 100;
 

@@ -1,7 +1,7 @@
 // Whether the condition of a row of the table holds of a call: one function for each row.
 ghost use mathlib.Core.Path.{_≡_};
 ghost use Prim.Native.Nat.{min};
-ghost use Rattle.answers.specs.Table.{badWidth, badByteWidth, badKept, badCount, tooLong, badKey, smallTray, badRows, badWords, badDigits, fitRow};
+ghost use Rattle.answers.specs.Table.{badWidth, badByteWidth, badKept, badCount, tooLong, badKey, smallTray, badRows, badWords, badDigits, badPeers, fitRow};
 use crate::decimal::power_of_ten;
 use crate::range::row_fits;
 
@@ -104,6 +104,16 @@ pub fn bad_digits(w: u32, d: u32) -> bool
         return false;
     }
     (1u64 << w) < power_of_ten(d)
+}
+
+// 10 Peers.
+pub fn bad_peers(p: u32) -> bool
+    ensures { λ r. ⌜ r ≡ badPeers p ⌝ }
+{
+    if p < 1 {
+        return true;
+    }
+    16 < p
 }
 
 // 8 State, a row of a state. Only zero is below 2^0.

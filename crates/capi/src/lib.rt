@@ -4,6 +4,7 @@ ghost use Rattle.digest.specs.Words.{digestAnswer, digestRow};
 ghost use Rattle.digest.specs.Bytes.{bytesAnswer, bytesRow};
 ghost use Rattle.digest.specs.Match.{matchAnswer};
 ghost use Rattle.code.specs.Calls.{codeAnswer, codeRow};
+ghost use Rattle.crew.specs.Calls.{crewAnswer, crewRow};
 ghost use Rattle.mt19937.specs.Stretch.{stretchAnswer, stretched};
 ghost use lib.ListN.{length};
 
@@ -55,6 +56,24 @@ pub extern "C" fn pairing_digest_code(
         ⌝ }
 {
     code::digest_code(w, d, message, key, out)
+}
+
+#[no_mangle]
+pub extern "C" fn pairing_digest_crew(
+    w: u32,
+    b: u32,
+    n: u32,
+    p: u32,
+    message: &[u32],
+    keys: &[u32],
+    out: &mut [u32],
+) -> u32
+    ensures { λ r. ⌜
+        (r ≡ crewAnswer w b n p (now (message .entry)) (now (keys .entry)) (now (out .entry)))
+        × (now (out .exit) ≡ crewRow w b n p (now (message .entry)) (now (keys .entry)) (now (out .entry)))
+        ⌝ }
+{
+    crew::digest_crew(w, b, n, p, message, keys, out)
 }
 
 #[no_mangle]

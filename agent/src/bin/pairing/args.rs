@@ -80,6 +80,12 @@ impl Args {
         self.number(name)?.ok_or_else(|| missing(name))
     }
 
+    /// The first operand, which must be given and has that name, and those after it.
+    pub fn operands_from(&self, name: &str) -> Result<(&OsStr, &[OsString]), Failure> {
+        let (first, rest) = self.operands.split_first().ok_or_else(|| missing(name))?;
+        Ok((first, rest))
+    }
+
     /// The operands, which must be those named.
     pub fn operands<const N: usize>(&self, names: [&str; N]) -> Result<[&OsStr; N], Failure> {
         if let Some(name) = names.get(self.operands.len()) {

@@ -13,14 +13,19 @@ pub const OPTIONS: &[&str] = &["--width", "--kept", "--words", "--seed", "--key"
 /// What the help of both commands says of their options after the width.
 macro_rules! options_help {
     () => {
-        concat!(
-            "  --kept B     low bits kept of each digest word, 1 to W; W if not given
-  --words N    digest words, 1 to 8; 1 if not given
-",
-            key_help!("N words")
-        )
+        concat!(size_help!(), key_help!("N words"))
     };
 }
+
+/// What the help of a command says of the digest's size.
+macro_rules! size_help {
+    () => {
+        "  --kept B     low bits kept of each digest word, 1 to W; W if not given
+  --words N    digest words, 1 to 8; 1 if not given
+"
+    };
+}
+pub(crate) use size_help;
 
 pub const BYTES_HELP: &str = concat!(
     "The digest of a file's bytes.
@@ -72,16 +77,18 @@ impl Keyed for Digest {
         // Room for the largest digest, so that the output is never too short.
         let mut out = [0; MOST_DIGEST_WORDS];
         self.message.digest(self.settings, key, &mut out)?;
-        let words = out[..self.settings.words as usize]
-            .iter()
-            .map(|word| format!("{word:08x}"))
-            .collect::<Vec<_>>();
-        Ok(words.join(" "))
+        Ok(text(&out[..self.settings.words as usize]))
     }
 
     fn refused(&self, refusal: Refusal, key: &[u32]) -> Failure {
         refused::digest(refusal, self.settings, &self.message, key)
     }
+}
+
+/// A digest as it is printed.
+pub fn text(digest: &[u32]) -> String {
+    let words = digest.iter().map(|word| format!("{word:08x}"));
+    words.collect::<Vec<_>>().join(" ")
 }
 
 pub fn bytes(args: Args) -> Result<Answer, Failure> {
@@ -92,13 +99,18 @@ pub fn words(args: Args) -> Result<Answer, Failure> {
     run(&args, Message::read_words)
 }
 
-fn run(args: &Args, read: fn(&OsStr) -> Result<Message, Failure>) -> Result<Answer, Failure> {
+/// The settings that the options give.
+pub fn settings(args: &Args) -> Result<Settings, Failure> {
     let width = args.number("--width")?.unwrap_or(32);
-    let settings = Settings {
+    Ok(Settings {
         width,
         kept: args.number("--kept")?.unwrap_or(width),
         words: args.number("--words")?.unwrap_or(1),
-    };
+    })
+}
+
+fn run(args: &Args, read: fn(&OsStr) -> Result<Message, Failure>) -> Result<Answer, Failure> {
+    let settings = settings(args)?;
     let sources = Sources::given(args)?;
     let message = read(sources.message)?;
     sources.answer(&Digest { settings, message })

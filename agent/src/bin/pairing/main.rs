@@ -8,6 +8,7 @@
 mod args;
 mod code;
 mod count;
+mod crew;
 mod digest;
 mod ending;
 mod explain;
@@ -41,6 +42,7 @@ Usage: pairing COMMAND ...
   digest         the digest of a file's bytes
   digest-words   the digest of a row of words
   code           the code of a row of words: digits to be read aloud
+  crew           the digests of a row of words under the keys of up to 16 peers
   stretch        key words from a seed
   match          whether two digests agree
   count          the largest count of keys under which two messages agree
@@ -69,7 +71,7 @@ struct Command {
     run: fn(Args) -> Result<Answer, Failure>,
 }
 
-static COMMANDS: [Command; 7] = [
+static COMMANDS: [Command; 8] = [
     Command {
         name: "digest",
         help: digest::BYTES_HELP,
@@ -87,6 +89,12 @@ static COMMANDS: [Command; 7] = [
         help: code::HELP,
         options: code::OPTIONS,
         run: code::run,
+    },
+    Command {
+        name: "crew",
+        help: crew::HELP,
+        options: crew::OPTIONS,
+        run: crew::run,
     },
     Command {
         name: "stretch",

@@ -7,7 +7,7 @@ use crate::input::MOST_BYTES;
 use crate::message::Message;
 use crate::show::{counted, thousands};
 use pairing_agent::{Refusal, Settings};
-use pairing_agent::{MOST_DIGEST_WORDS, MOST_KEY_WORDS, MOST_MESSAGE_WORDS};
+use pairing_agent::{MOST_DIGEST_WORDS, MOST_KEY_WORDS, MOST_MESSAGE_WORDS, MOST_PEERS};
 
 const WIDTHS: &str = "1 to 32";
 const WIDTHS_FOR_BYTES: &str = "8, 16 or 32";
@@ -19,14 +19,32 @@ pub fn digest(refusal: Refusal, settings: Settings, message: &Message, key: &[u3
             Message::Bytes(_) => width_figures(width, WIDTHS_FOR_BYTES),
             Message::Words(_) => width_figures(width, WIDTHS),
         }),
-        Refusal::Kept => {
-            let kept = thousands(kept);
-            Some(format!("{kept} bits kept; 1 to {width} at width {width}"))
-        }
+        Refusal::Kept => Some(kept_figures(kept, width)),
         Refusal::Count => Some(count_figures(words)),
         Refusal::Long => Some(long_figures(message, settings)),
         Refusal::Key => Some(key_figures(message.words(settings), words, key.len())),
         Refusal::Word => word_figures(message.given_words(), width, key),
+        _ => None,
+    };
+    Failure::Refused(refusal, figures)
+}
+
+pub fn crew(
+    refusal: Refusal,
+    settings: Settings,
+    peers: usize,
+    message: &[u32],
+    keys: &[Vec<u32>],
+) -> Failure {
+    let Settings { width, kept, words } = settings;
+    let figures = match refusal {
+        Refusal::Width => Some(width_figures(width, WIDTHS)),
+        Refusal::Kept => Some(kept_figures(kept, width)),
+        Refusal::Count => Some(count_figures(words)),
+        Refusal::Peers => Some(format!("{}; 1 to {MOST_PEERS}", counted(peers, "peer"))),
+        Refusal::Long => Some(most_words("", message.len())),
+        Refusal::Key => key_of_a_crew_figures(settings, message.len(), keys),
+        Refusal::Word => word_of_a_crew_figures(message, width, keys),
         _ => None,
     };
     Failure::Refused(refusal, figures)
@@ -79,6 +97,11 @@ fn width_figures(width: u32, widths: &str) -> String {
     format!("width {}; {widths}", thousands(width))
 }
 
+fn kept_figures(kept: u32, width: u32) -> String {
+    let kept = thousands(kept);
+    format!("{kept} bits kept; 1 to {width} at width {width}")
+}
+
 fn digits_figures(digits: u32, width: u32) -> String {
     // The most digits: the largest d with 10^d at most 2^w.
     let passing = match (1u64 << width).ilog10() {
@@ -123,18 +146,39 @@ fn key_figures(message_words: usize, digest_words: u32, key_words: usize) -> Str
     )
 }
 
+/// The first key of another length than the others should have.
+fn key_of_a_crew_figures(settings: Settings, words: usize, keys: &[Vec<u32>]) -> Option<String> {
+    let due = settings.key_words(words);
+    let place = keys.iter().position(|key| key.len() != due)?;
+    let figures = key_figures(words, settings.words, keys[place].len());
+    Some(format!("peer {}: {figures}", place + 1))
+}
+
 /// The first word that is too large, of the message or else of the key.
 fn word_figures(message: &[u32], width: u32, key: &[u32]) -> Option<String> {
-    let most = (1u64 << width) - 1;
     [("message", message), ("key", key)]
         .into_iter()
-        .find_map(|(row, words)| {
-            let place = words.iter().position(|&word| u64::from(word) > most)?;
-            Some(format!(
-                "{row} word {} is {}; at most {} at width {width}",
-                thousands(place + 1),
-                thousands(words[place]),
-                thousands(most)
-            ))
+        .find_map(|(row, words)| too_large(row, words, width))
+}
+
+/// The same of the message or else of the first key that has one.
+fn word_of_a_crew_figures(message: &[u32], width: u32, keys: &[Vec<u32>]) -> Option<String> {
+    let in_keys = || {
+        keys.iter().enumerate().find_map(|(place, key)| {
+            let figures = too_large("key", key, width)?;
+            Some(format!("peer {}: {figures}", place + 1))
         })
+    };
+    too_large("message", message, width).or_else(in_keys)
+}
+
+fn too_large(row: &str, words: &[u32], width: u32) -> Option<String> {
+    let most = (1u64 << width) - 1;
+    let place = words.iter().position(|&word| u64::from(word) > most)?;
+    Some(format!(
+        "{row} word {} is {}; at most {} at width {width}",
+        thousands(place + 1),
+        thousands(words[place]),
+        thousands(most)
+    ))
 }

@@ -1,0 +1,4 @@
+pub mod Crew
+pub mod Calls
+pub mod Shape
+pub mod Kept

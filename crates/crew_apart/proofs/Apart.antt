@@ -1,0 +1,124 @@
+-- A peer's row is of its own key, whatever the others are; another key reaches the answer in one way; a crew of one is the word digest.
+-- Assumes nothing.
+use mathlib.Core.Path.{_≡_, refl, sym, ap, ap₂, _∙_}
+use mathlib.Core.Bool.{Bool, true, false, _&&_, cond, true≢false}
+use mathlib.Core.Logic.{_⊎_, inl, inr}
+use mathlib.Core.List.{List, [], _∷_}
+use Prim.Native.Nat.{ℕ, _+_}
+use native.Mathlib.Nat.{one-mul, zero-mul}
+use native.Mathlib.Decide.{ℕ-discrete}
+use native.Mathlib.Omega.{arith}
+use lib.ListN.{length, drop}
+use lib.Seq.{take-all}
+use Rattle.counts.specs.Digest.{fits, digest}
+use Rattle.answers.specs.Answers.{Test, firstOf, afterwards}
+use Rattle.answers.specs.Table.{badPeers, wordTest}
+use Rattle.answers.proofs.Judged.{word-last}
+use Rattle.answers.proofs.Rows.{accepted-row, refused-row}
+use Rattle.digest.specs.Words.{digestAnswer, digestRow}
+use Rattle.crew.specs.Crew.{rowAt, crewRows}
+use Rattle.crew.specs.Calls.{crewAnswer, crewRow}
+use Rattle.crew_apart.specs.Claims.{RowAlone, CrewOfOne, OtherKeysDoNotReach, Reached, OneWayOnly, KeysReplaced}
+use Rattle.crew.specs.Shape.{crewShape}
+use Rattle.crew.proofs.EndToEnd.{row-of}
+use Rattle.crew.proofs.Passed.{by-length, crew-answer, crew-key}
+
+pub row-alone : RowAlone
+unfolding RowAlone crewRow
+row-alone w b n p i ms ks out lt accepted =
+    ap (rowAt n i) (accepted-row (crewAnswer w b n p ms ks out) (crewRows w b n p ms ks) out accepted)
+    ∙ row-of w b n ms ks p i (drop (length (crewRows w b n p ms ks)) out) lt
+
+pub other-keys-do-not-reach : OtherKeysDoNotReach
+unfolding OtherKeysDoNotReach RowAlone
+other-keys-do-not-reach w b n p i ms ks ks′ out out′ lt accepted accepted′ same =
+    row-alone w b n p i ms ks out lt accepted ∙ ap (digest w b n ms) same ∙ sym (row-alone w b n p i ms ks′ out′ lt accepted′)
+
+-- tests that all pass give the later answer, and others give one whatever comes later
+later-or-not : (ts : List Test) → ((x : ℕ) → firstOf ts x ≡ x) ⊎ ((x y : ℕ) → firstOf ts x ≡ firstOf ts y)
+unfolding firstOf
+later-or-not [] = inl (λ x. refl)
+later-or-not (t ∷ ts) = go (t .holds) (later-or-not ts)
+  where
+    go : (h : Bool) → ((x : ℕ) → firstOf ts x ≡ x) ⊎ ((x y : ℕ) → firstOf ts x ≡ firstOf ts y)
+        → ((x : ℕ) → cond h (t .number) (firstOf ts x) ≡ x) ⊎ ((x y : ℕ) → cond h (t .number) (firstOf ts x) ≡ cond h (t .number) (firstOf ts y))
+    go true rest = inr (λ x y. refl)
+    go false rest = rest
+
+-- Word as the last test of a call, whose other tests are ts
+module _ (w : ℕ) (ts : List Test) (ms : List ℕ) where
+  abbrev answered : List ℕ → ℕ
+  answered ks = firstOf ts (firstOf (wordTest w ms ks ∷ []) 0)
+
+  by-fit : (ks : List ℕ) (m k : Bool) → fits w ms ≡ m → fits w ks ≡ k → answered ks ≡ firstOf ts (cond (m && k) 0 7)
+  by-fit ks m k em ek = ap (firstOf ts) (sym (word-last w ms ks (ap₂ (λ (x y : Bool). x && y) (sym em) (sym ek))))
+
+  -- the first slice has a word of 2^w or more, the second has none
+  module _ (ks ks′ : List ℕ) (unfit : fits w ks ≡ false) (fit : fits w ks′ ≡ true) where
+    one-way : (m : Bool) → fits w ms ≡ m → (answered ks ≡ answered ks′) ⊎ Reached w (answered ks) ks (answered ks′) ks′
+    one-way false em = inl (by-fit ks false false em unfit ∙ sym (by-fit ks′ false true em fit))
+    one-way true em = go (later-or-not ts)
+      where
+        go : ((x : ℕ) → firstOf ts x ≡ x) ⊎ ((x y : ℕ) → firstOf ts x ≡ firstOf ts y) → (answered ks ≡ answered ks′) ⊎ Reached w (answered ks) ks (answered ks′) ks′
+        go (inl later) = inr (by-fit ks true false em unfit ∙ later 7, unfit, by-fit ks′ true true em fit ∙ later 0, fit)
+        go (inr stopped) = inl (by-fit ks true false em unfit ∙ stopped 7 0 ∙ sym (by-fit ks′ true true em fit))
+
+  ways : (ks ks′ : List ℕ) (k k′ : Bool) → fits w ks ≡ k → fits w ks′ ≡ k′
+      → (answered ks ≡ answered ks′) ⊎ (Reached w (answered ks) ks (answered ks′) ks′ ⊎ Reached w (answered ks′) ks′ (answered ks) ks)
+  ways ks ks′ true true e e′ = inl (by-fit ks _ true refl e ∙ sym (by-fit ks′ _ true refl e′))
+  ways ks ks′ false false e e′ = inl (by-fit ks _ false refl e ∙ sym (by-fit ks′ _ false refl e′))
+  ways ks ks′ false true e e′ = go (one-way ks ks′ e e′ _ refl)
+    where
+      go : (answered ks ≡ answered ks′) ⊎ Reached w (answered ks) ks (answered ks′) ks′
+          → (answered ks ≡ answered ks′) ⊎ (Reached w (answered ks) ks (answered ks′) ks′ ⊎ Reached w (answered ks′) ks′ (answered ks) ks)
+      go (inl same) = inl same
+      go (inr one) = inr (inl one)
+  ways ks ks′ true false e e′ = go (one-way ks′ ks e′ e _ refl)
+    where
+      go : (answered ks′ ≡ answered ks) ⊎ Reached w (answered ks′) ks′ (answered ks) ks
+          → (answered ks ≡ answered ks′) ⊎ (Reached w (answered ks) ks (answered ks′) ks′ ⊎ Reached w (answered ks′) ks′ (answered ks) ks)
+      go (inl same) = inl (sym same)
+      go (inr one) = inr (inr one)
+
+pub one-way-only : OneWayOnly
+unfolding OneWayOnly
+one-way-only w b n p ms ks ks′ out e e′ =
+    let same : crewShape w b n p ms ks′ out ≡ crewShape w b n p ms ks out = by-length w b n p ms ks′ ks out (e′ ∙ sym e) in
+    rw (← crew-answer w b n p ms ks out, ← crew-answer w b n p ms ks′ out, same) (ways w (crewShape w b n p ms ks out) ms ks ks′ (fits w ks) (fits w ks′) refl refl)
+
+pub keys-replaced : KeysReplaced
+unfolding KeysReplaced OneWayOnly OtherKeysDoNotReach
+keys-replaced w b n p i ms ks ks′ out lt accepted long fit same =
+    let again = go (one-way-only w b n p ms ks ks′ out (crew-key w b n p ms ks out accepted) long) in
+    (again, other-keys-do-not-reach w b n p i ms ks ks′ out out lt accepted again same)
+  where
+    go : (crewAnswer w b n p ms ks out ≡ crewAnswer w b n p ms ks′ out)
+        ⊎ (Reached w (crewAnswer w b n p ms ks out) ks (crewAnswer w b n p ms ks′ out) ks′
+        ⊎ Reached w (crewAnswer w b n p ms ks′ out) ks′ (crewAnswer w b n p ms ks out) ks)
+        → crewAnswer w b n p ms ks′ out ≡ 0
+    go (inl alike) = sym alike ∙ accepted
+    go (inr (inl one)) = one .2
+    go (inr (inr one)) = absurd (true≢false (sym fit ∙ one .1))
+
+-- a crew of one
+module _ (w b n : ℕ) (ms ks out : List ℕ) where
+  one-answer : crewAnswer w b n 1 ms ks out ≡ digestAnswer w b n ms ks out
+  unfolding crewAnswer digestAnswer firstOf badPeers
+  one-answer = rw (one-mul (length ms + n), one-mul n)
+
+  one-digest : length ks ≡ length ms + n → crewRows w b n 1 ms ks ≡ digest w b n ms ks
+  unfolding crewRows
+  one-digest e = rw (zero-mul (length ms + n), take-all (length ms + n) ks (omega arith))
+
+  one-row : Dec (crewAnswer w b n 1 ms ks out ≡ 0) → crewRow w b n 1 ms ks out ≡ digestRow w b n ms ks out
+  unfolding crewRow digestRow
+  one-row (yes accepted) =
+      ap₂ (λ (a : ℕ) (l : List ℕ). afterwards a l out) one-answer
+      (one-digest (crew-key w b n 1 ms ks out accepted ∙ one-mul (length ms + n)))
+  one-row (no refused) =
+      refused-row (crewAnswer w b n 1 ms ks out) (crewRows w b n 1 ms ks) out refused
+      ∙ sym (refused-row (digestAnswer w b n ms ks out) (digest w b n ms ks) out (λ z. refused (one-answer ∙ z)))
+
+pub crew-of-one : CrewOfOne
+unfolding CrewOfOne
+crew-of-one w b n ms ks out = (one-answer w b n ms ks out, one-row w b n ms ks out (ℕ-discrete (crewAnswer w b n 1 ms ks out) 0))

@@ -1,0 +1,61 @@
+-- What one peer's key is to another's answer (document 02, "Five"), and what a crew of one is: about the values that the promise names.
+use mathlib.Core.Path.{_≡_}
+use mathlib.Core.Bool.{true, false}
+use mathlib.Core.Logic.{_⊎_}
+use mathlib.Core.List.{List}
+use Prim.Native.Nat.{ℕ, _+_, _*_, _<_}
+use lib.ListN.{length}
+use Rattle.counts.specs.Digest.{fits, digest}
+use Rattle.digest.specs.Words.{digestAnswer, digestRow}
+use Rattle.crew.specs.Crew.{rowAt}
+use Rattle.crew.specs.Calls.{crewAnswer, crewRow}
+
+-- 02, "Five": after an accepted call row i of the lent output is the digest under key i, and of no other key
+unfoldable pub RowAlone : Type 0
+RowAlone =
+    (w b n p i : ℕ) (ms ks out : List ℕ)
+    → i < p
+    → crewAnswer w b n p ms ks out ≡ 0
+    → rowAt n i (crewRow w b n p ms ks out) ≡ digest w b n ms (rowAt (length ms + n) i ks)
+
+-- for every input, a crew of one is answered and written as the word digest's call is
+unfoldable pub CrewOfOne : Type 0
+CrewOfOne =
+    (w b n : ℕ) (ms ks out : List ℕ)
+    → (crewAnswer w b n 1 ms ks out ≡ digestAnswer w b n ms ks out) × (crewRow w b n 1 ms ks out ≡ digestRow w b n ms ks out)
+
+-- 02, "Five": two accepted calls with the same settings and message, whose keys agree in key i and may differ in every other, write
+-- one row i. Each has an output of its own
+unfoldable pub OtherKeysDoNotReach : Type 0
+OtherKeysDoNotReach =
+    (w b n p i : ℕ) (ms ks ks′ out out′ : List ℕ)
+    → i < p
+    → crewAnswer w b n p ms ks out ≡ 0
+    → crewAnswer w b n p ms ks′ out′ ≡ 0
+    → rowAt (length ms + n) i ks ≡ rowAt (length ms + n) i ks′
+    → rowAt n i (crewRow w b n p ms ks out) ≡ rowAt n i (crewRow w b n p ms ks′ out′)
+
+-- the one way: refused for a word of 2^w or more in some key, where the other slice has none and is accepted
+abbrev pub Reached : ℕ → ℕ → List ℕ → ℕ → List ℕ → Type 0
+Reached w answer ks answer′ ks′ = (answer ≡ 7) × (fits w ks ≡ false) × (answer′ ≡ 0) × (fits w ks′ ≡ true)
+
+-- 02, "Five": in a slice of the right length no key reaches the answer otherwise: two of them are answered alike, or so
+unfoldable pub OneWayOnly : Type 0
+OneWayOnly =
+    (w b n p : ℕ) (ms ks ks′ out : List ℕ)
+    → length ks ≡ p * (length ms + n)
+    → length ks′ ≡ p * (length ms + n)
+    → (crewAnswer w b n p ms ks out ≡ crewAnswer w b n p ms ks′ out)
+    ⊎ (Reached w (crewAnswer w b n p ms ks out) ks (crewAnswer w b n p ms ks′ out) ks′
+    ⊎ Reached w (crewAnswer w b n p ms ks′ out) ks′ (crewAnswer w b n p ms ks out) ks)
+
+-- 02, "Five": an accepted call with its other keys replaced by any of t + n words below 2^w: it is accepted again, and row i stays
+unfoldable pub KeysReplaced : Type 0
+KeysReplaced =
+    (w b n p i : ℕ) (ms ks ks′ out : List ℕ)
+    → i < p
+    → crewAnswer w b n p ms ks out ≡ 0
+    → length ks′ ≡ p * (length ms + n)
+    → fits w ks′ ≡ true
+    → rowAt (length ms + n) i ks ≡ rowAt (length ms + n) i ks′
+    → (crewAnswer w b n p ms ks′ out ≡ 0) × (rowAt n i (crewRow w b n p ms ks out) ≡ rowAt n i (crewRow w b n p ms ks′ out))
