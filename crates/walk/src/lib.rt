@@ -1,4 +1,5 @@
-// One walk over a message and its key for n sums, with the range test of the words in it. All that digests runs through it.
+// One walk over a message and its key for n sums, with the range test of the words in it. All that digests under one key runs
+// through it.
 ghost use mathlib.Core.Path.{_≡_};
 ghost use mathlib.Core.Bool.{true, false};
 ghost use mathlib.Core.List.{[], _∷_};
