@@ -28,9 +28,9 @@
 
 /* The version of this header and of the library that goes with it. */
 #define PAIRING_VERSION_MAJOR 0
-#define PAIRING_VERSION_MINOR 4
+#define PAIRING_VERSION_MINOR 5
 #define PAIRING_VERSION_PATCH 0
-#define PAIRING_VERSION "0.4.0"
+#define PAIRING_VERSION "0.5.0"
 
 /* Makes a compiler that can warn do so where an answer is not used: a refused call
  * has written nothing. */
@@ -174,8 +174,10 @@ uint32_t pairing_digest_crew(uint32_t w, uint32_t b, uint32_t n, uint32_t p,
                              uint32_t *out, size_t out_words);
 
 /*
- * Fills the whole of out with key words of w bits, each the low bits of the next
- * output of MT19937 made new from the seed.
+ * Fills the whole of out with key words, each the upper w bits of the next output of
+ * MT19937 made new from the seed: the output divided by 2^(32-w), rounded down. So
+ * each is below 2^w, and no digest of that width refuses such a key as PAIRING_WORD.
+ * Below width 32 both ends need this version: before 0.5 the key words were others.
  *
  * Answers PAIRING_ACCEPTED; or PAIRING_WIDTH, or PAIRING_LONG where out has more
  * than PAIRING_MOST_KEY_WORDS places.

@@ -384,7 +384,7 @@ static int stretched(void)
     static uint32_t row[10001];
     row[10000] = 9;
     return pairing_stretch(32, 5489, row, 10000) == PAIRING_ACCEPTED && row[9999] == 4123659995u && row[10000] == 9 &&
-           pairing_stretch(16, 5489, row, 10000) == PAIRING_ACCEPTED && row[9999] == 4123659995u % 65536 &&
+           pairing_stretch(16, 5489, row, 10000) == PAIRING_ACCEPTED && row[9999] == 4123659995u / 65536 &&
            row[10000] == 9;
 }
 

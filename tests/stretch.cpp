@@ -29,12 +29,12 @@ bool is(std::uint32_t w, std::uint32_t seed, std::size_t words, std::uint32_t an
     return pairing_stretch(w, seed, all.data() + guards, words) == answer_due && all == all_due;
 }
 
-// Accepted, and each word the next output modulo 2^w.
+// Accepted, and each word the upper w bits of the next output: divided by 2^(32-w), rounded down.
 bool stretches(std::uint32_t w, std::uint32_t seed, std::size_t words) {
     std::mt19937 generator(seed);
     std::vector<std::uint32_t> due;
     for (std::size_t i = 0; i < words; i++)
-        due.push_back(static_cast<std::uint32_t>(generator() % (std::uint64_t{1} << w)));
+        due.push_back(static_cast<std::uint32_t>(generator() / (std::uint64_t{1} << (32 - w))));
     return is(w, seed, words, PAIRING_ACCEPTED, due);
 }
 

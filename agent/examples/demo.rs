@@ -1,5 +1,6 @@
 //! A scanner and a depot pair, through the proved library: once as it should go, once with a label
-//! altered on the way, once with a label of the wrong length. Then a crew pairs together.
+//! altered on the way, once with a label of the wrong length. Then a crew pairs together, and at
+//! last a seed is stretched at several widths.
 
 #![forbid(unsafe_code)]
 
@@ -33,6 +34,12 @@ fn main() {
     }
     println!("\n4. A crew of scanners pairs with a shift leader, who digests for all in one call");
     for line in crew().expect("the crew is fit") {
+        println!("   {line}");
+    }
+    println!(
+        "\n5. The seed at other widths: a key word is the upper bits of the generator's output"
+    );
+    for line in widths().expect("the widths are fit") {
         println!("   {line}");
     }
 }
@@ -129,6 +136,22 @@ fn crew() -> Result<Vec<String>, Refusal> {
     Ok(lines)
 }
 
+/// The first key words of the seed, with as many hexadecimal digits as the width has.
+fn widths() -> Result<Vec<String>, Refusal> {
+    let mut lines = vec![];
+    for width in [32, 16, 8, 4] {
+        let mut key = [0; 4];
+        stretch(width, SEED, &mut key)?;
+        let digits = (width / 4) as usize;
+        let words = key.map(|word| format!("{:8}", format!("{word:0digits$x}")));
+        lines.push(format!(
+            "{width:2} bits           {}",
+            words.join(" ").trim_end()
+        ));
+    }
+    Ok(lines)
+}
+
 fn shown(digest: &[u32]) -> String {
     let words: Vec<_> = digest.iter().map(|word| format!("{word:08x}")).collect();
     words.join(" ")
@@ -158,4 +181,17 @@ fn every_scanner_of_the_crew_pairs() {
     let lines = crew().unwrap();
     assert_eq!(lines.len(), CREW.len());
     assert!(lines.iter().all(|line| line.ends_with(": match")));
+}
+
+#[test]
+fn narrower_key_words_begin_the_wider_ones() {
+    let lines = widths().unwrap();
+    let words: Vec<Vec<_>> = lines
+        .iter()
+        .map(|line| line.split_whitespace().skip(2).collect())
+        .collect();
+    for (narrow, digits) in words.iter().zip([8, 4, 2, 1]) {
+        let due: Vec<_> = words[0].iter().map(|word| &word[..digits]).collect();
+        assert_eq!(*narrow, due);
+    }
 }

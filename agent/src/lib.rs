@@ -190,8 +190,19 @@ pub fn digest_crew(
     written(ffi::digest_crew(settings, peers, message, keys, out))
 }
 
-/// Fills the whole of `key` with words of `width` bits, each from the next output of MT19937 made
-/// new from `seed`.
+/// Fills the whole of `key` with words of `width` bits, each the upper bits of the next output of
+/// MT19937 made new from `seed`: the output divided by 2^(32−w), rounded down.
+///
+/// ```
+/// // The first outputs of seed 5489 are 0xd091bb5c and 0x22ae9ef6.
+/// let mut key = [0; 2];
+/// pairing_agent::stretch(8, 5489, &mut key)?;
+/// assert_eq!(key, [0xd0, 0x22]);
+/// # Ok::<(), pairing_agent::Refusal>(())
+/// ```
+///
+/// So each word is below 2^w, and no digest of that width refuses such a key as `Word`. Below width
+/// 32 both ends need this version: before 0.5 the words were others.
 ///
 /// The counts over all keys are not proved for keys made so: there are at most 2^32 of them.
 ///

@@ -219,7 +219,7 @@ fn stretch_due(call: &Stretch) -> Outcome {
         y ^= (y * 2u64.pow(7) % size) & 0x9d2c_5680;
         y ^= (y * 2u64.pow(15) % size) & 0xefc6_0000;
         y ^= y / 2u64.pow(18);
-        (y % 2u64.pow(w)) as u32
+        (y / 2u64.pow(32 - w)) as u32
     });
     Outcome {
         answer: 0,

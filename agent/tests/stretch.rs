@@ -97,11 +97,25 @@ fn a_shorter_row_is_the_start_of_a_longer_one() {
 }
 
 #[test]
-fn narrower_words_are_the_low_bits() {
+fn narrower_words_are_the_upper_bits() {
     let whole = stretched(32, 78, 2_000);
     for w in 1..32 {
-        let low: Vec<u32> = whole.iter().map(|word| word % (1 << w)).collect();
-        assert!(stretched(w, 78, 2_000) == low, "w {w}");
+        let upper: Vec<u32> = whole.iter().map(|word| word >> (32 - w)).collect();
+        assert!(stretched(w, 78, 2_000) == upper, "w {w}");
+    }
+}
+
+/// In binary, an output and the digits that each width takes of it, the first ones.
+#[test]
+fn a_word_of_w_bits_is_the_first_w_binary_digits() {
+    let output = format!("{:032b}", 4_123_659_995u32);
+    for w in 1..=32 {
+        let last = stretched(w, 5_489, 10_000)[9_999];
+        assert_eq!(
+            format!("{last:0w$b}", w = w as usize),
+            output[..w as usize],
+            "w {w}"
+        );
     }
 }
 

@@ -84,6 +84,8 @@ fn help_has_the_limits_and_what_is_proved() {
     let stretch = accepted(&["stretch", "--help"], b"");
     let count = format!("how many words, up to {MOST_KEY_WORDS}\n");
     assert!(stretch.contains(&count), "{stretch}");
+    let rule = "Key words from a seed: of each output of MT19937 the upper W bits.\n";
+    assert!(stretch.starts_with(rule), "{stretch}");
     let plain = stretch.split_whitespace().collect::<Vec<_>>().join(" ");
     for part in [
         "proved for keys of t + n words drawn uniformly",

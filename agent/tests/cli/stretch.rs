@@ -8,10 +8,20 @@ fn stretch_prints_the_published_outputs() {
         accepted(&["stretch", "--seed", "5489", "3"], b""),
         "0xd091bb5c\n0x22ae9ef6\n0xe7e1faee\n"
     );
-    assert_eq!(
-        accepted(&["stretch", "--width", "8", "--seed", "5489", "3"], b""),
-        "0x0000005c\n0x000000f6\n0x000000ee\n"
-    );
+    // Narrower words are the first bits of the same outputs: of the first, the hexadecimal digits
+    // d0, d, and the binary digit 1.
+    for (w, due) in [
+        ("16", ["d091", "22ae", "e7e1"]),
+        ("8", ["00d0", "0022", "00e7"]),
+        ("4", ["000d", "0002", "000e"]),
+        ("1", ["0001", "0000", "0001"]),
+    ] {
+        assert_eq!(
+            accepted(&["stretch", "--width", w, "--seed", "5489", "3"], b""),
+            due.map(|word| format!("0x0000{word}\n")).concat(),
+            "w {w}"
+        );
+    }
     assert_eq!(accepted(&["stretch", "--seed", "5489", "0"], b""), "");
     let words = accepted(&["stretch", "--seed", "5489", "10000"], b"");
     assert_eq!(words.lines().count(), 10_000);

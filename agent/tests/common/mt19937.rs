@@ -1,5 +1,6 @@
-//! What a stretch must answer, written from the scope document's bullets New, Refill and Next, in
-//! whole numbers of 64 bits and with no eye to speed. It shares nothing with the library.
+//! What a stretch must answer, written from the scope document's bullets New, Refill and Next, and
+//! for the bits of an output that a key word is from document 02, "Six"; in whole numbers of 64 bits
+//! and with no eye to speed. It shares nothing with the library.
 
 use super::paper::Outcome;
 
@@ -10,7 +11,7 @@ pub fn stretch(w: u32, seed: u32, out: &[u32]) -> Outcome {
     if answer == 0 {
         let mut generator = Generator::new(seed);
         for word in &mut out {
-            *word = u32::try_from(generator.next() % 2u64.pow(w)).unwrap();
+            *word = u32::try_from(generator.next() / 2u64.pow(32 - w)).unwrap();
         }
     }
     Outcome { answer, out }

@@ -1,12 +1,15 @@
--- Laws of steps made in place, and of one next.
+-- Laws of steps made in place, of one next, and of a stretch that its tests have passed.
 use Prim.Native.Nat.{ℕ, _+_, _≤_, _<_}
 use mathlib.Core.Path.{_≡_, refl, sym, _∙_, ap}
-use mathlib.Core.List.{List}
+use mathlib.Core.List.{List, [], _∷_}
 use native.Mathlib.Numerals.{add-one}
 use native.Mathlib.Omega.{arith}
 use borrow.Author.Tests.{le-leb, lt-leb, eq-eqb, ne-eqb}
 use Rattle.answers.specs.Answers.{firstOf}
+use Rattle.answers.specs.Table.{longStretchTest}
+use Rattle.answers.proofs.Judged.{passed, width-passed}
 use Rattle.mt19937.specs.Published.{steps, generator, refill, ready, taken, nextAnswer, nextOf}
+use Rattle.mt19937.specs.Stretch.{stretchAnswer}
 use Rattle.mt19937.specs.declared.Generator.{Generator}
 
 -- the first run of steps starts at the words themselves
@@ -38,3 +41,8 @@ next-taken g h = rw (le-leb (g .at) 624 h)
 
 pub next-within : (ws : List ℕ) (at : ℕ) → at < 624 → nextOf (generator ws at) ≡ taken (generator ws at)
 next-within ws at h = next-taken (generator ws at) (omega arith) ∙ sym (ap taken (ready-within ws at h))
+
+-- a stretch that is not refused has a width
+pub stretch-width : (w places : ℕ) → stretchAnswer w places ≡ 0 → (1 ≤ w) × (w ≤ 32)
+unfolding stretchAnswer
+stretch-width w places e = width-passed w (passed 0 _ (longStretchTest places ∷ []) e .0)

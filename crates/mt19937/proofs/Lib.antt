@@ -1,3 +1,4 @@
 -- Laws that several proofs cite.
 pub mod Laws
 pub mod Rows
+pub mod Below

@@ -1,7 +1,11 @@
--- Rows of key words and the stretch of a seed, as document 01 has them: the row that it writes, and what it answers.
-use Prim.Native.Nat.{ℕ, zero, suc, _+_, _%_, _^_}
+-- Rows of key words and the stretch of a seed, as document 01 has them, each word cut from an output as document 02, "Six", says: the row that it
+-- writes, and what it answers.
+use Prim.Native.Nat.{ℕ, zero, suc, _+_, _-_, _/_, _^_, _<_}
+use mathlib.Core.Path.{_≡_}
+use mathlib.Core.Bool.{true}
 use mathlib.Core.List.{List, [], _∷_, map}
 use lib.ListN.{getD, length}
+use Rattle.counts.specs.Digest.{fits}
 use Rattle.answers.specs.Answers.{firstOf, afterwards}
 use Rattle.answers.specs.Table.{widthTest, longStretchTest}
 use Rattle.mt19937.specs.Published.{seeded, temper, nextOf}
@@ -17,15 +21,15 @@ unfoldable pub after : ℕ → Generator → Generator
 after zero g = g
 after (suc n) g = after n (nextOf g .state)
 
--- 01, The generator: a key word is the output modulo 2^w
+-- 02, "Six": a key word is the output divided by 2^(32−w), rounded down: its upper w bits
 unfoldable pub keyWord : ℕ → ℕ → ℕ
-keyWord w output = output % 2 ^ w
+keyWord w output = output / 2 ^ (32 - w)
 
 -- the key words that the state words give from a position on
 unfoldable pub keyFrom : ℕ → List ℕ → ℕ → ℕ → ℕ
 keyFrom w ws from i = keyWord w (temper (getD ws (from + i) 0))
 
--- 01, The generator: a row of n key words, each the next output
+-- 01, The generator: a row of n key words, each from the next output
 unfoldable pub keyRow : ℕ → Generator → ℕ → List ℕ
 keyRow w g n = map (keyWord w) (outputs n g)
 
@@ -36,3 +40,7 @@ stretchAnswer w places = firstOf (widthTest w ∷ longStretchTest places ∷ [])
 -- 01, The generator: a stretch makes the generator new and fills the whole lent row
 unfoldable pub stretched : ℕ → ℕ → List ℕ → List ℕ
 stretched w seed row = afterwards (stretchAnswer w (length row)) (keyRow w (seeded seed) (length row)) row
+
+-- what an accepted stretch leaves is fit to be a key: every word is below 2^w, so no digest of that width refuses it as Word
+unfoldable pub StretchedFits : Type 0
+StretchedFits = (w seed : ℕ) (row : List ℕ) → seed < 2 ^ 32 → stretchAnswer w (length row) ≡ 0 → fits w (stretched w seed row) ≡ true

@@ -1,4 +1,4 @@
-// Rows of key words: the next outputs of a generator, with their low bits.
+// Rows of key words: the next outputs of a generator, of each the upper bits.
 ghost use mathlib.Core.Path.{_≡_};
 ghost use Prim.Native.Nat.{_+_, _-_, _≤_, _<_, min};
 ghost use lib.ListN.{length};
@@ -11,14 +11,15 @@ use crate::temper_word;
 
 // The key word that a state word gives.
 fn key_word(w: u32, y: u32) -> u32
+    requires { ⌜ (1 ≤ w) × (w ≤ 32) ⌝ }
     ensures { λ r. ⌜ r ≡ keyWord w (temper y) ⌝ }
 {
-    sums::keep(w, temper_word(y))
+    temper_word(y) >> (Generator::OUTPUT_BITS - w)
 }
 
 // The key words of the state words from a position on, as many as there are places.
 fn temper_block(w: u32, words: &[u32; 624], from: usize, out: &mut [u32])
-    requires { ⌜ from + length (now out) ≤ 624 ⌝ }
+    requires { ⌜ (1 ≤ w) × (w ≤ 32) × (from + length (now out) ≤ 624) ⌝ }
     ensures { λ _. ⌜ now (out .exit) ≡ table (keyFrom w (now (words .entry)) from) (length (now (out .entry))) ⌝ }
 {
     for i in 0..out.len() {
@@ -36,7 +37,7 @@ fn block_end(from: usize, done: usize, n: usize) -> usize
 
 // The whole row from a state and its position on; gives the position after it. Blocks spare a test for each word.
 pub(crate) fn key_row(w: u32, words: &mut [u32; 624], at: usize, out: &mut [u32]) -> usize
-    requires { ⌜ at ≤ 624 ⌝ }
+    requires { ⌜ (1 ≤ w) × (w ≤ 32) × (at ≤ 624) ⌝ }
     ensures { λ r. ⌜
         (now (out .exit) ≡ keyRow w (generator (now (words .entry)) at) (length (now (out .entry))))
         × (generator (now (words .exit)) r ≡ after (length (now (out .entry))) (generator (now (words .entry)) at))

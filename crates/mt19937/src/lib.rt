@@ -48,6 +48,8 @@ impl Generator {
 
     pub const LAST_SHIFT: u32 = 18;
 
+    pub const OUTPUT_BITS: u32 = 32;
+
     // The first state word whose far word lies before it; the last state word, and its far word.
     const TURN: usize = Self::SIZE - Self::FAR;
 
@@ -182,7 +184,7 @@ fn take_at(words: [u32; 624], at: usize) -> Next
     }
 }
 
-// Fills the whole row with key words of w bits, each from the next output of a generator that is new from the seed.
+// Fills the whole row with key words, each the upper w bits of the next output of a generator that is new from the seed.
 pub fn stretch(w: u32, seed: u32, out: &mut [u32]) -> u32
     ensures { λ r. ⌜ (r ≡ stretchAnswer w (length (now (out .entry)))) × (now (out .exit) ≡ stretched w seed (now (out .entry))) ⌝ }
 {

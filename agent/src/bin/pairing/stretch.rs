@@ -6,7 +6,7 @@ use crate::refused;
 use crate::seed::Seed;
 
 pub const HELP: &str = "\
-Key words from a seed: the outputs of MT19937, each cut to W bits.
+Key words from a seed: of each output of MT19937 the upper W bits.
 
 Usage: pairing stretch [--width W] --seed S COUNT
 

@@ -1,9 +1,10 @@
 -- `stretch` meets its contract: a refusal writes nothing, and an accepted call writes the row of the new generator.
-use mathlib.Core.Path.{_∙_}
+use mathlib.Core.Path.{sym, _∙_}
 use borrow.Author.Needs.{needs}
 use Rattle.answers.proofs.Rows.{refused, accepted}
 use Rattle.mt19937.specs.Published.{seeded}
 use Rattle.mt19937.specs.Stretch.{stretched}
+use Rattle.mt19937.proofs.Laws.{stretch-width}
 use Rattle.mt19937.proofs.Rows.{row-whole}
 use Rattle.mt19937.proofs.stretch.Statement.{statement}
 use Rattle.mt19937.proofs.stretch.Tie as tie
@@ -19,7 +20,10 @@ fill-requires : tie.Need-fill-requires
 fill-requires c κs = search needs
 
 key-row-requires : tie.Need-key-row-requires
-key-row-requires c κs = search needs
+key-row-requires c κs =
+    let none = c .before .before .before in
+    let fit = stretch-width _ _ (sym (none .before .judge .ensures) ∙ none .if1 .left) in
+    (fit .0, fit .1, search needs)
 
 same-length : tie.Need-same-length
 same-length c = search needs

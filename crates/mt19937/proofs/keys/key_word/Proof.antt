@@ -1,7 +1,7 @@
--- `mt19937::keys::key_word` meets its contract: the low w bits of the output.
-use mathlib.Core.Path.{ap, _∙_}
+-- `mt19937::keys::key_word` meets its contract: the upper w bits of the output.
+use mathlib.Core.Path.{ap}
+use native.Mathlib.Omega.{arith}
 use borrow.Author.Needs.{needs}
-use Rattle.counts.specs.Digest.{kept}
 use Rattle.mt19937.specs.Stretch.{keyWord}
 use Rattle.mt19937.proofs.keys.key_word.Statement.{statement}
 use Rattle.mt19937.proofs.keys.key_word.Tie as tie
@@ -9,12 +9,15 @@ use Rattle.mt19937.proofs.keys.key_word.Tie as tie
 temper-word-requires : tie.Need-temper-word-requires
 temper-word-requires c κs = search needs
 
-keep-requires : tie.Need-keep-requires
-keep-requires c κs = search needs
+sub-result : tie.Need-sub-result
+sub-result c = omega arith
+
+shr-result : tie.Need-shr-result
+shr-result c = omega arith
 
 returns : tie.Need-returns
-unfolding kept keyWord
-returns c = c .keep .ensures ∙ ap (kept _) (c .before .temper-word .ensures)
+unfolding keyWord
+returns c = ap (keyWord _) (c .temper-word .ensures)
 
 pub key-word-spec : {M : Type 1} → statement M
-key-word-spec = tie.close (tie.spec temper-word-requires keep-requires returns)
+key-word-spec = tie.close (tie.spec temper-word-requires sub-result shr-result returns)

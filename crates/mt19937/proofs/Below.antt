@@ -1,0 +1,132 @@
+-- A generator's words and outputs are below 2^32, so key words of w bits are below 2^w, and a stretched row is a key that fits.
+use Prim.Native.Nat.{ℕ, zero, suc, _+_, _-_, _*_, _/_, _%_, _^_, _≤_, _<_}
+use mathlib.Core.Path.{_≡_, refl, sym, ap, subst, _∙_}
+use mathlib.Core.Bool.{Bool, true, false, cond}
+use mathlib.Core.List.{List, [], _∷_, _++_}
+use native.Mathlib.Nat.{lt-of-le-of-lt, mod-lt}
+use native.Mathlib.Omega.{arith}
+use lib.Bits.{bitAnd, bitXor, xor-lt, or-lt, and-le-l}
+use lib.Dec.{eqb}
+use lib.ListN.{getD, set, length}
+use lib.Pow.{pow-pos, shr-lt, shr-le}
+use borrow.Author.Tests.{lt-ltb}
+use Rattle.rows.specs.Written.{table}
+use Rattle.counts.specs.Digest.{fits}
+use Rattle.answers.proofs.Rows.{accepted-row}
+use Rattle.mt19937.specs.Published.{steps, following, newWord, newWords, seeded, joined, twisted, twist, refill, ready, temper, taken, nextAnswer, nextOf}
+use Rattle.mt19937.specs.Stretch.{outputs, keyWord, keyRow, stretched, StretchedFits}
+use Rattle.mt19937.specs.declared.Generator.{Generator}
+use Rattle.mt19937.proofs.Laws.{stretch-width}
+use Rattle.mt19937.proofs.Rows.{row-whole}
+
+-- every word of a row of the generator's
+abbrev pub Below : List ℕ → Type 0
+Below ws = (i : ℕ) → getD ws i 0 < 2 ^ 32
+
+none-below : Below []
+none-below i = pow-pos 32
+
+append-below : (a b : List ℕ) → Below a → Below b → Below (a ++ b)
+append-below [] b ha hb i = hb i
+append-below (x ∷ a) b ha hb zero = ha zero
+append-below (x ∷ a) b ha hb (suc i) = append-below a b (λ j. ha (suc j)) hb i
+
+table-below : (f : ℕ → ℕ) (n : ℕ) → ((i : ℕ) → f i < 2 ^ 32) → Below (table f n)
+unfolding table
+table-below f zero h = none-below
+table-below f (suc n) h = append-below (table f n) (f n ∷ []) (table-below f n h) one
+  where
+    one : Below (f n ∷ [])
+    one zero = h n
+    one (suc i) = pow-pos 32
+
+set-below : (ws : List ℕ) (i v : ℕ) → Below ws → v < 2 ^ 32 → Below (set ws i v)
+set-below [] i v h hv j = none-below j
+set-below (x ∷ ws) zero v h hv zero = hv
+set-below (x ∷ ws) zero v h hv (suc j) = h (suc j)
+set-below (x ∷ ws) (suc i) v h hv zero = h zero
+set-below (x ∷ ws) (suc i) v h hv (suc j) = set-below ws i v (λ k. h (suc k)) hv j
+
+shift-below : (y k : ℕ) → y < 2 ^ 32 → y / 2 ^ k < 2 ^ 32
+shift-below y k h = lt-of-le-of-lt (shr-le y k) h
+
+mask-below : (y m : ℕ) → y < 2 ^ 32 → bitAnd y m < 2 ^ 32
+mask-below y m h = lt-of-le-of-lt (and-le-l y m) h
+
+new-below : (seed i : ℕ) → seed < 2 ^ 32 → newWord seed i < 2 ^ 32
+unfolding newWord following
+new-below seed zero h = h
+new-below seed (suc i) h = mod-lt _ (pow-pos 32)
+
+twisted-below : (far y : ℕ) → far < 2 ^ 32 → y < 2 ^ 32 → twisted far y < 2 ^ 32
+unfolding twisted
+twisted-below far y hf hy = xor-lt 32 _ _ (xor-lt 32 far (y / 2 ^ 1) hf (shift-below y 1 hy)) (go (eqb (y % 2) 1))
+  where
+    go : (odd : Bool) → cond odd 0x9908_B0DF 0 < 2 ^ 32
+    go true = omega arith
+    go false = pow-pos 32
+
+joined-below : (this next : ℕ) → this < 2 ^ 32 → next < 2 ^ 32 → joined this next < 2 ^ 32
+unfolding joined
+joined-below this next h k = or-lt 32 _ _ (mask-below this _ h) (mask-below next _ k)
+
+twist-below : (i : ℕ) (ws : List ℕ) → Below ws → Below (twist i ws)
+unfolding twist
+twist-below i ws h = set-below ws i _ h (twisted-below _ _ (h _) (joined-below _ _ (h _) (h _)))
+
+twists-below : (n : ℕ) (ws : List ℕ) → Below ws → Below (steps twist n ws)
+unfolding steps
+twists-below zero ws h = h
+twists-below (suc n) ws h = twist-below n (steps twist n ws) (twists-below n ws h)
+
+refill-below : (ws : List ℕ) → Below ws → Below (refill ws)
+unfolding refill
+refill-below ws h = twists-below 624 ws h
+
+ready-below : (g : Generator) → Below (g .words) → Below (ready g .words)
+unfolding ready
+ready-below g h = go (eqb (g .at) 624)
+  where
+    go : (used : Bool) → Below (cond used (record { words = refill (g .words); at = 0 }) g .words)
+    go true = refill-below (g .words) h
+    go false = h
+
+temper-below : (y : ℕ) → y < 2 ^ 32 → temper y < 2 ^ 32
+unfolding temper
+temper-below y h = right 18 _ (left 15 0xEFC6_0000 _ (left 7 0x9D2C_5680 _ (right 11 y h)))
+  where
+    right : (k x : ℕ) → x < 2 ^ 32 → bitXor x (x / 2 ^ k) < 2 ^ 32
+    right k x b = xor-lt 32 x (x / 2 ^ k) b (shift-below x k b)
+
+    left : (k m x : ℕ) → x < 2 ^ 32 → bitXor x (bitAnd (x * 2 ^ k % 2 ^ 32) m) < 2 ^ 32
+    left k m x b = xor-lt 32 x (bitAnd (x * 2 ^ k % 2 ^ 32) m) b (mask-below (x * 2 ^ k % 2 ^ 32) m (mod-lt (x * 2 ^ k) (pow-pos 32)))
+
+-- an output, and the state after it
+next-below : (g : Generator) → Below (g .words) → (nextOf g .word < 2 ^ 32) × Below (nextOf g .state .words)
+unfolding nextOf taken
+next-below g h = go (eqb (nextAnswer g) 0)
+  where
+    go : (fit : Bool)
+        → let n = cond fit (taken (ready g)) (record { answer = nextAnswer g; word = 0; state = g }) in
+        (n .word < 2 ^ 32) × Below (n .state .words)
+    go true = (temper-below _ (ready-below g h _), ready-below g h)
+    go false = (pow-pos 32, h)
+
+key-word-below : (w output : ℕ) → w ≤ 32 → output < 2 ^ 32 → keyWord w output < 2 ^ w
+unfolding keyWord
+key-word-below w output h b =
+    let whole : 32 ≡ w + (32 - w) = omega arith in
+    shr-lt w (32 - w) (subst (λ (k : ℕ). output < 2 ^ k) whole b)
+
+row-below : (w n : ℕ) (g : Generator) → w ≤ 32 → Below (g .words) → fits w (keyRow w g n) ≡ true
+unfolding keyRow outputs fits
+row-below w zero g h b = refl
+row-below w (suc n) g h b =
+    let next = next-below g b in
+    rw (lt-ltb (keyWord w (nextOf g .word)) (2 ^ w) (key-word-below w _ h (next .0))) (row-below w n (nextOf g .state) h (next .1))
+
+pub stretched-fits : StretchedFits
+unfolding StretchedFits stretched seeded newWords
+stretched-fits w seed row h e =
+    ap (fits w) (accepted-row _ _ row e ∙ sym (row-whole w (seeded seed) row))
+    ∙ row-below w (length row) (seeded seed) (stretch-width w (length row) e .1) (table-below (newWord seed) 624 (λ i. new-below seed i h))
