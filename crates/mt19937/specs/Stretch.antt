@@ -41,6 +41,6 @@ stretchAnswer w places = firstOf (widthTest w ∷ longStretchTest places ∷ [])
 unfoldable pub stretched : ℕ → ℕ → List ℕ → List ℕ
 stretched w seed row = afterwards (stretchAnswer w (length row)) (keyRow w (seeded seed) (length row)) row
 
--- what an accepted stretch leaves is fit to be a key: every word is below 2^w, so no digest of that width refuses it as Word
+-- 01, The sum, has key words below 2^w: an accepted stretch leaves no others, so no digest of that width refuses its row as Word
 unfoldable pub StretchedFits : Type 0
 StretchedFits = (w seed : ℕ) (row : List ℕ) → seed < 2 ^ 32 → stretchAnswer w (length row) ≡ 0 → fits w (stretched w seed row) ≡ true
