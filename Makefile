@@ -26,7 +26,7 @@ pairing: lib
 	@$(CARGO) build $(PACKAGE) --release --quiet --bin pairing
 	@echo "The command line is target/agent/release/pairing."
 
-# the proved digests beside Rust loops, and the stretch beside C++'s generator, each in one run
+# the proved digests beside Rust loops, the stretch and the loads beside C++'s generator, each in one run
 bench: lib
 	$(CARGO) bench $(PACKAGE) --bench digests
 	@mkdir -p target/bench

@@ -16,9 +16,10 @@
  * returns its number and nothing else: every lent row holds what it held.
  *
  * What the counts cover: how many keys make two different messages agree is proved
- * over all keys of t + n words drawn uniformly, n being 1 for a code; a stretched key
- * is one of at most 2^32, and no count is proved for those. Messages of words have
- * one length there; of bytes, any lengths (pairing_digest_bytes).
+ * over all keys of t + n words drawn uniformly, n being 1 for a code; a key stretched
+ * from a seed of s words is one of at most 2^(32 * s), and no count is proved for
+ * those. Messages of words have one length there; of bytes, any lengths
+ * (pairing_digest_bytes).
  */
 #ifndef PAIRING_H
 #define PAIRING_H
@@ -28,9 +29,9 @@
 
 /* The version of this header and of the library that goes with it. */
 #define PAIRING_VERSION_MAJOR 0
-#define PAIRING_VERSION_MINOR 5
+#define PAIRING_VERSION_MINOR 6
 #define PAIRING_VERSION_PATCH 0
-#define PAIRING_VERSION "0.5.0"
+#define PAIRING_VERSION "0.6.0"
 
 /* Makes a compiler that can warn do so where an answer is not used: a refused call
  * has written nothing. */
@@ -60,14 +61,17 @@ enum {
     PAIRING_WIDTH = 1,
     /* Digits: a code of no digits, or of so many that 10^d is more than 2^w. */
     PAIRING_DIGITS = 9,
+    /* Seed: a seed array of no words, or of more than PAIRING_MOST_SEED_WORDS. */
+    PAIRING_SEED = 11,
     /* Kept: b is 0 or more than w. */
     PAIRING_KEPT = 2,
     /* Count: n is not 1 to 8. */
     PAIRING_COUNT = 3,
     /* Peers: p is not 1 to 16. */
     PAIRING_PEERS = 10,
-    /* Long: the message has more than PAIRING_MOST_WORDS words, for bytes counted with
-     * the closing byte; a stretch, more than PAIRING_MOST_KEY_WORDS. */
+    /* Long: the message, a load's too, has more than PAIRING_MOST_WORDS words, for bytes
+     * counted with the closing byte; a stretch or the key of a load, more than
+     * PAIRING_MOST_KEY_WORDS. */
     PAIRING_LONG = 4,
     /* Key: the key does not have n words more than the message, for bytes counted with
      * the closing byte; for a code, one word more; the keys of a crew do not have p times
@@ -84,12 +88,15 @@ enum {
     PAIRING_NO_MATCH = 101
 };
 
-/* The most message words of one digest. One byte closes a message of bytes, so at
- * width w it has at most w / 8 * PAIRING_MOST_WORDS - 1. */
+/* The most message words of one digest or load. One byte closes a message of bytes,
+ * so at width w it has at most w / 8 * PAIRING_MOST_WORDS - 1. */
 #define PAIRING_MOST_WORDS 65536
 
-/* The most words of one stretch: a key for the longest message. */
+/* The most words of one stretch, and of a load's key: a key for the longest message. */
 #define PAIRING_MOST_KEY_WORDS 65544
+
+/* The most words of a seed array. */
+#define PAIRING_MOST_SEED_WORDS 8
 
 /* The most words that a digest has, and so the largest n. */
 #define PAIRING_MOST_DIGEST_WORDS 8
@@ -177,13 +184,50 @@ uint32_t pairing_digest_crew(uint32_t w, uint32_t b, uint32_t n, uint32_t p,
  * Fills the whole of out with key words, each the upper w bits of the next output of
  * MT19937 made new from the seed: the output divided by 2^(32-w), rounded down. So
  * each is below 2^w, and no digest of that width refuses such a key as PAIRING_WORD.
- * Below width 32 both ends need this version: before 0.5 the key words were others.
+ * Below width 32 both ends need 0.5 or later: before it the key words were others.
  *
  * Answers PAIRING_ACCEPTED; or PAIRING_WIDTH, or PAIRING_LONG where out has more
  * than PAIRING_MOST_KEY_WORDS places.
  */
 PAIRING_USE_ANSWER
 uint32_t pairing_stretch(uint32_t w, uint32_t seed, uint32_t *out, size_t out_words);
+
+/*
+ * As pairing_stretch, with MT19937 made new from a seed array of 1 to
+ * PAIRING_MOST_SEED_WORDS words by its published initialisation by array. An array of
+ * one word is not the plain seed of that word. Arrays of different lengths can make one
+ * generator, as 2 and 2, 1 do: both ends agree on the length too.
+ *
+ * Answers PAIRING_ACCEPTED; or PAIRING_WIDTH, PAIRING_SEED, or PAIRING_LONG where out
+ * has more than PAIRING_MOST_KEY_WORDS places. The seed is only read.
+ */
+PAIRING_USE_ANSWER
+uint32_t pairing_stretch_array(uint32_t w, const uint32_t *seed, size_t seed_words,
+                               uint32_t *out, size_t out_words);
+
+/*
+ * A load for a test bench, the same each time: fills the whole of key, then the whole
+ * of message from the outputs that follow, each word by the rule of pairing_stretch.
+ * So the key is the stretch of the seed, and key and message end to end are one longer
+ * row of such words.
+ *
+ * Answers PAIRING_ACCEPTED; or PAIRING_WIDTH, or PAIRING_LONG where key has more than
+ * PAIRING_MOST_KEY_WORDS places or message more than PAIRING_MOST_WORDS.
+ */
+PAIRING_USE_ANSWER
+uint32_t pairing_load(uint32_t w, uint32_t seed,
+                      uint32_t *key, size_t key_words,
+                      uint32_t *message, size_t message_words);
+
+/*
+ * As pairing_load, from a seed array as pairing_stretch_array takes it.
+ *
+ * Answers as pairing_load, and PAIRING_SEED. The seed is only read.
+ */
+PAIRING_USE_ANSWER
+uint32_t pairing_load_array(uint32_t w, const uint32_t *seed, size_t seed_words,
+                            uint32_t *key, size_t key_words,
+                            uint32_t *message, size_t message_words);
 
 /*
  * Compares two digests of n words.

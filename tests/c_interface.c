@@ -406,6 +406,167 @@ static int stretch_refused(void)
            pairing_stretch(1, 1, row, 0) == PAIRING_ACCEPTED && row[0] == 11 && row[1] == 12;
 }
 
+/* The array of the generator's published output file, and the outputs with which that file begins. */
+static const uint32_t published[] = {0x123, 0x234, 0x345, 0x456};
+static const uint32_t published_outputs[] = {1067595299u, 955945823u, 477289528u, 4107218783u, 4228976476u};
+
+static int array_stretched(void)
+{
+    uint32_t row[] = {9, 9, 9, 9, 9, 9};
+    size_t i;
+    if (pairing_stretch_array(32, published, WORDS(published), row, 5) != PAIRING_ACCEPTED ||
+        memcmp(row, published_outputs, sizeof published_outputs) != 0 || row[5] != 9 ||
+        pairing_stretch_array(16, published, WORDS(published), row, 5) != PAIRING_ACCEPTED || row[5] != 9)
+        return 0;
+    for (i = 0; i < WORDS(published_outputs); i++)
+        if (row[i] != published_outputs[i] / 65536)
+            return 0;
+    return 1;
+}
+
+/* Every size of array passes, and its last word counts: a zero there is another seed than the array without it. One
+ * word is not the plain seed. */
+static int array_of_every_size(void)
+{
+    static const uint32_t words[PAIRING_MOST_SEED_WORDS] = {5489, 0, 0, 0, 0, 0, 0, 0};
+    uint32_t last[2], row[3];
+    size_t size;
+    if (pairing_stretch(32, words[0], last, 2) != PAIRING_ACCEPTED)
+        return 0;
+    for (size = 1; size <= PAIRING_MOST_SEED_WORDS; size++) {
+        row[2] = 9;
+        if (pairing_stretch_array(32, words, size, row, 2) != PAIRING_ACCEPTED || memcmp(row, last, sizeof last) == 0 ||
+            row[2] != 9)
+            return 0;
+        memcpy(last, row, sizeof last);
+    }
+    return 1;
+}
+
+/* Output 10,000 again, as the message's last word; the key is the stretch of the seed. */
+static int loaded(void)
+{
+    static uint32_t key_row[9991], message_row[11], due[9990];
+    key_row[9990] = message_row[10] = 9;
+    return pairing_load(32, 5489, key_row, 9990, message_row, 10) == PAIRING_ACCEPTED &&
+           pairing_stretch(32, 5489, due, 9990) == PAIRING_ACCEPTED && memcmp(key_row, due, sizeof due) == 0 &&
+           message_row[9] == 4123659995u && key_row[9990] == 9 && message_row[10] == 9 &&
+           pairing_load(16, 5489, key_row, 9990, message_row, 10) == PAIRING_ACCEPTED && key_row[0] == due[0] / 65536 &&
+           message_row[9] == 4123659995u / 65536;
+}
+
+/* The published outputs, cut at every place. */
+static int array_loaded(void)
+{
+    enum { ALL = WORDS(published_outputs) };
+    size_t cut;
+    for (cut = 0; cut <= ALL; cut++) {
+        uint32_t key_row[ALL + 1], message_row[ALL + 1];
+        key_row[cut] = message_row[ALL - cut] = 9;
+        if (pairing_load_array(32, published, WORDS(published), key_row, cut, message_row, ALL - cut) !=
+                PAIRING_ACCEPTED ||
+            memcmp(key_row, published_outputs, cut * sizeof key_row[0]) != 0 ||
+            memcmp(message_row, published_outputs + cut, (ALL - cut) * sizeof key_row[0]) != 0 || key_row[cut] != 9 ||
+            message_row[ALL - cut] != 9)
+            return 0;
+    }
+    return 1;
+}
+
+/* Seed 1 begins with 1791095845; neither row is written beyond its end. */
+static int loaded_to_the_most_words(void)
+{
+    static uint32_t key_row[PAIRING_MOST_KEY_WORDS + 1], message_row[PAIRING_MOST_WORDS + 1];
+    key_row[PAIRING_MOST_KEY_WORDS] = message_row[PAIRING_MOST_WORDS] = 9;
+    return pairing_load(32, 1, key_row, PAIRING_MOST_KEY_WORDS, message_row, PAIRING_MOST_WORDS) == PAIRING_ACCEPTED &&
+           key_row[0] == 1791095845 &&
+           pairing_load_array(32, published, WORDS(published), key_row, PAIRING_MOST_KEY_WORDS, message_row,
+                              PAIRING_MOST_WORDS) == PAIRING_ACCEPTED &&
+           key_row[0] == published_outputs[0] &&
+           pairing_stretch_array(1, published, WORDS(published), key_row, PAIRING_MOST_KEY_WORDS) == PAIRING_ACCEPTED &&
+           key_row[0] == published_outputs[0] >> 31 && key_row[PAIRING_MOST_KEY_WORDS] == 9 &&
+           message_row[PAIRING_MOST_WORDS] == 9;
+}
+
+static void hold_nines(uint32_t *row, size_t words)
+{
+    while (words > 0)
+        row[--words] = 9;
+}
+
+static int holds_nines(const uint32_t *row, size_t words)
+{
+    while (words > 0)
+        if (row[--words] != 9)
+            return 0;
+    return 1;
+}
+
+static const uint32_t nine_words[PAIRING_MOST_SEED_WORDS + 1] = {1, 2, 3, 4, 5, 6, 7, 8, 9};
+
+static int array_stretch_refused(void)
+{
+    static uint32_t row[PAIRING_MOST_KEY_WORDS + 1];
+    static const struct {
+        uint32_t due, w;
+        size_t seed_words, out_words;
+    } calls[] = {
+        {PAIRING_WIDTH, 0, 8, 2},
+        {PAIRING_WIDTH, 33, 0, WORDS(row)},
+        {PAIRING_WIDTH, 0, 9, WORDS(row)},
+        {PAIRING_SEED, 1, 0, 2},
+        {PAIRING_SEED, 32, 9, 2},
+        {PAIRING_SEED, 32, 0, WORDS(row)},
+        {PAIRING_SEED, 1, 9, WORDS(row)},
+        {PAIRING_LONG, 1, 1, WORDS(row)},
+        {PAIRING_LONG, 32, 8, WORDS(row)},
+    };
+    size_t i;
+    hold_nines(row, WORDS(row));
+    for (i = 0; i < WORDS(calls); i++)
+        if (pairing_stretch_array(calls[i].w, nine_words, calls[i].seed_words, row, calls[i].out_words) !=
+                calls[i].due ||
+            !holds_nines(row, WORDS(row)))
+            return 0;
+    return 1;
+}
+
+/* The plain seed's load answers the same, unless it is the array that is refused. */
+static int load_refused(void)
+{
+    enum { KEY = PAIRING_MOST_KEY_WORDS, MESSAGE = PAIRING_MOST_WORDS };
+    static uint32_t key_row[KEY + 1], message_row[KEY];
+    static const struct {
+        uint32_t due, w;
+        size_t seed_words, key_words, message_words;
+    } calls[] = {
+        {PAIRING_WIDTH, 0, 8, 2, 2},
+        {PAIRING_WIDTH, 33, 0, KEY + 1, MESSAGE + 1},
+        {PAIRING_WIDTH, 0, 9, KEY + 1, MESSAGE + 1},
+        {PAIRING_SEED, 1, 0, 2, 2},
+        {PAIRING_SEED, 32, 9, 2, 2},
+        {PAIRING_SEED, 32, 0, KEY + 1, 0},
+        {PAIRING_SEED, 1, 9, 0, MESSAGE + 1},
+        {PAIRING_LONG, 1, 1, KEY + 1, 0},
+        {PAIRING_LONG, 32, 8, KEY + 1, MESSAGE},
+        {PAIRING_LONG, 1, 1, 0, MESSAGE + 1},
+        {PAIRING_LONG, 32, 8, KEY, MESSAGE + 1},
+        /* as many as a key may have */
+        {PAIRING_LONG, 32, 8, KEY, KEY},
+    };
+    size_t i;
+    hold_nines(key_row, WORDS(key_row));
+    hold_nines(message_row, WORDS(message_row));
+    for (i = 0; i < WORDS(calls); i++)
+        if (pairing_load_array(calls[i].w, nine_words, calls[i].seed_words, key_row, calls[i].key_words, message_row,
+                               calls[i].message_words) != calls[i].due ||
+            (calls[i].due != PAIRING_SEED && pairing_load(calls[i].w, 1, key_row, calls[i].key_words, message_row,
+                                                          calls[i].message_words) != calls[i].due) ||
+            !holds_nines(key_row, WORDS(key_row)) || !holds_nines(message_row, WORDS(message_row)))
+            return 0;
+    return 1;
+}
+
 static int match(void)
 {
     const uint32_t same[] = {3, 7};
@@ -480,6 +641,25 @@ static int null_crew(void)
            pairing_digest_crew(0, 0, 0, 0, NULL, 0, NULL, 0, NULL, 0) == PAIRING_WIDTH;
 }
 
+/* The seed, and each row of a load with the other row there. */
+static int null_seeds(void)
+{
+    uint32_t plain_key[] = {9, 9}, plain_message[] = {9, 9}, array_key[] = {9, 9}, array_message[] = {9, 9};
+    return pairing_stretch_array(32, published, WORDS(published), NULL, 0) == PAIRING_ACCEPTED &&
+           pairing_stretch_array(32, NULL, 0, array_key, 1) == PAIRING_SEED && array_key[0] == 9 &&
+           pairing_stretch_array(33, NULL, 0, NULL, 0) == PAIRING_WIDTH &&
+           pairing_load(32, 1, NULL, 0, NULL, 0) == PAIRING_ACCEPTED &&
+           pairing_load(32, 1, plain_key, 1, NULL, 0) == PAIRING_ACCEPTED &&
+           pairing_load(32, 1, NULL, 0, plain_message, 1) == PAIRING_ACCEPTED && plain_key[0] == 1791095845 &&
+           plain_message[0] == 1791095845 && pairing_load(33, 1, NULL, 0, NULL, 0) == PAIRING_WIDTH &&
+           pairing_load_array(32, NULL, 0, array_key, 1, array_message, 1) == PAIRING_SEED && array_key[0] == 9 &&
+           pairing_load_array(32, published, WORDS(published), array_key, 1, NULL, 0) == PAIRING_ACCEPTED &&
+           pairing_load_array(32, published, WORDS(published), NULL, 0, array_message, 1) == PAIRING_ACCEPTED &&
+           array_key[0] == published_outputs[0] && array_message[0] == published_outputs[0] &&
+           pairing_load_array(0, NULL, 0, NULL, 0, NULL, 0) == PAIRING_WIDTH && plain_key[1] == 9 &&
+           plain_message[1] == 9 && array_key[1] == 9 && array_message[1] == 9;
+}
+
 static int version(void)
 {
     char text[32];
@@ -515,6 +695,13 @@ static const struct {
     {"stretched", stretched},
     {"stretched_to_the_most_words", stretched_to_the_most_words},
     {"stretch_refused", stretch_refused},
+    {"array_stretched", array_stretched},
+    {"array_of_every_size", array_of_every_size},
+    {"array_stretch_refused", array_stretch_refused},
+    {"loaded", loaded},
+    {"array_loaded", array_loaded},
+    {"loaded_to_the_most_words", loaded_to_the_most_words},
+    {"load_refused", load_refused},
     {"match", match},
     {"no_match", no_match},
     {"match_refused", match_refused},
@@ -522,6 +709,7 @@ static const struct {
     {"null_bytes", null_bytes},
     {"null_code", null_code},
     {"null_crew", null_crew},
+    {"null_seeds", null_seeds},
     {"version", version},
 };
 

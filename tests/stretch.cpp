@@ -1,10 +1,6 @@
-// The proved stretch against std::mt19937. Ends as Rust's test harness does, so that the gate can add it up.
+// The proved stretch against std::mt19937.
+#include "common/calls.hpp"
 #include "pairing.h"
-
-#include <cstdint>
-#include <cstdio>
-#include <random>
-#include <vector>
 
 namespace {
 
@@ -13,29 +9,16 @@ const std::size_t most = PAIRING_MOST_KEY_WORDS;
 // Around each refill, and the ends.
 const std::size_t lengths[] = {0, 1, 2, 623, 624, 625, 1247, 1248, 1249, most - 1, most};
 
-// What stands in a row, and around it, before the call.
-const std::uint32_t held = 0xdeadbeef;
-const std::size_t guards = 8;
-
-unsigned long calls;
-
-// Stretches into a row between guard words: every place must be as due, the guard words as they were.
-bool is(std::uint32_t w, std::uint32_t seed, std::size_t words, std::uint32_t answer_due,
-        const std::vector<std::uint32_t> &due) {
-    std::vector<std::uint32_t> all(guards + words + guards, held), all_due(all);
-    for (std::size_t i = 0; i < due.size(); i++)
-        all_due[guards + i] = due[i];
+// Stretches: every place must be as due, and all around as it was.
+bool is(std::uint32_t w, std::uint32_t seed, std::size_t words, std::uint32_t answer_due, const Row &due) {
+    Lent out(words);
     calls++;
-    return pairing_stretch(w, seed, all.data() + guards, words) == answer_due && all == all_due;
+    return pairing_stretch(w, seed, out.data(), out.size()) == answer_due && out.is(due);
 }
 
-// Accepted, and each word the upper w bits of the next output: divided by 2^(32-w), rounded down.
+// Accepted, and each word the upper w bits of the next output.
 bool stretches(std::uint32_t w, std::uint32_t seed, std::size_t words) {
-    std::mt19937 generator(seed);
-    std::vector<std::uint32_t> due;
-    for (std::size_t i = 0; i < words; i++)
-        due.push_back(static_cast<std::uint32_t>(generator() / (std::uint64_t{1} << (32 - w))));
-    return is(w, seed, words, PAIRING_ACCEPTED, due);
+    return is(w, seed, words, PAIRING_ACCEPTED, upper_bits(w, plain_outputs(seed, words)));
 }
 
 bool refuses(std::uint32_t w, std::size_t words, std::uint32_t answer) {
@@ -102,10 +85,7 @@ bool refused_width_before_long() {
     return refuses(0, most + 1, PAIRING_WIDTH) && refuses(33, most + 1, PAIRING_WIDTH);
 }
 
-const struct {
-    const char *name;
-    bool (*passes)();
-} tests[] = {
+const Test tests[] = {
     {"every_width_and_length", every_width_and_length},
     {"every_short_length", every_short_length},
     {"small_seeds", small_seeds},
@@ -118,19 +98,4 @@ const struct {
 
 } // namespace
 
-int main() {
-    unsigned passed = 0, failed = 0;
-    std::printf("running %u tests\n", static_cast<unsigned>(sizeof tests / sizeof tests[0]));
-    for (const auto &test : tests) {
-        calls = 0;
-        const bool passes = test.passes();
-        std::printf("test %s ... %s (%lu calls)\n", test.name, passes ? "ok" : "FAILED", calls);
-        if (passes)
-            passed++;
-        else
-            failed++;
-    }
-    std::printf("test result: %s. %u passed; %u failed; 0 ignored; 0 measured; 0 filtered out\n",
-                failed ? "FAILED" : "ok", passed, failed);
-    return failed != 0;
-}
+int main() { return run(tests); }

@@ -34,9 +34,11 @@ run() {
     done
 }
 
-# same_output NAME: target/tests/NAME must print what the proved program crates/NAME prints. Counts as one test.
+# same_output NAME: target/tests/NAME and then tests/NAME.py must print what the proved program crates/NAME prints. Counts as
+# one test.
 same_output() {
     "target/tests/$1" >"$logs/$1.stdout"
+    python3 -B "tests/$1.py" >>"$logs/$1.stdout"
     cmp "$logs/$1.stdout" "crates/$1/stdout" || fail "tests/$1 and crates/$1 print different lines"
     echo "test $1 prints what crates/$1 prints ... ok"
     echo "test result: ok. 1 passed; 0 failed; 0 ignored; 0 measured; 0 filtered out"
@@ -58,7 +60,7 @@ for source in tests/*.rs; do
     run "$name" "$results" "target/tests/$name"
 done
 
-# The generator's outputs, by C++'s own generator.
+# The generator's outputs, by C++'s own generator, and those of seed arrays by CPython's.
 cxx=(c++ -std=c++17 -Wall -Wextra -Werror -O2 -Iinclude)
 "${cxx[@]}" tests/mt_outputs.cpp -o target/tests/mt_outputs
 run mt_outputs "$results" same_output mt_outputs
@@ -73,6 +75,11 @@ unused_answer() {
     echo "test result: ok. 1 passed; 0 failed; 0 ignored; 0 measured; 0 filtered out"
 }
 
+# seed_arrays: the library against the outputs of CPython's generator.
+seed_arrays() {
+    python3 tests/seed_arrays.py | target/tests/seed_arrays
+}
+
 # The proved library, called from Rust, with the full number of random calls, from C and from C++.
 unset PAIRING_RANDOM_CALLS
 tools/lib.sh
@@ -85,5 +92,7 @@ run unused_in_c "$results" unused_answer cc -std=c11
 run unused_in_cxx "$results" unused_answer c++ -std=c++17 -x c++
 "${cxx[@]}" tests/stretch.cpp "$library" -o target/tests/stretch
 run stretch "$results" target/tests/stretch
+"${cxx[@]}" tests/seed_arrays.cpp "$library" -o target/tests/seed_arrays
+run seed_arrays "$results" seed_arrays
 
 echo "$passed passed, 0 failed"

@@ -1,11 +1,11 @@
 //! A scanner and a depot pair, through the proved library: once as it should go, once with a label
-//! altered on the way, once with a label of the wrong length. Then a crew pairs together, and at
-//! last a seed is stretched at several widths.
+//! altered on the way, once with a label of the wrong length. Then a crew pairs together, a seed is
+//! stretched at several widths, and at last two shares are joined into a longer seed.
 
 #![forbid(unsafe_code)]
 
-use pairing_agent::{digest_bytes, digest_crew, digest_words};
-use pairing_agent::{digests_match, stretch, Refusal, Settings};
+use pairing_agent::{digest_bytes, digest_crew, digest_words, digests_match};
+use pairing_agent::{load_array, stretch, stretch_array, Refusal, Settings, MOST_SEED_WORDS};
 
 /// What both ends have agreed on.
 const SETTINGS: Settings = Settings {
@@ -40,6 +40,12 @@ fn main() {
         "\n5. The seed at other widths: a key word is the upper bits of the generator's output"
     );
     for line in widths().expect("the widths are fit") {
+        println!("   {line}");
+    }
+    println!(
+        "\n6. The ends' shares, joined by xor, are a seed of eight words; a load is made twice"
+    );
+    for line in shares().expect("the shares are fit") {
         println!("   {line}");
     }
 }
@@ -152,6 +158,54 @@ fn widths() -> Result<Vec<String>, Refusal> {
     Ok(lines)
 }
 
+/// What each end draws for itself, here the same in every run.
+const SHARES: [[u32; MOST_SEED_WORDS]; 2] = [
+    [
+        0x243f_6a88,
+        0x85a3_08d3,
+        0x1319_8a2e,
+        0x0370_7344,
+        0xa409_3822,
+        0x299f_31d0,
+        0x082e_fa98,
+        0xec4e_6c89,
+    ],
+    [
+        0xb7e1_5162,
+        0x8aed_2a6a,
+        0xbf71_5880,
+        0x9cf4_f3c7,
+        0x62e7_160f,
+        0x38b4_da56,
+        0xa784_d904,
+        0x5190_cfef,
+    ],
+];
+
+/// Each end joins its own share with the other's and stretches its key. For a test bench, the same
+/// seed makes a load, and makes it again.
+fn shares() -> Result<Vec<String>, Refusal> {
+    let [scanner, depot] = SHARES;
+    let seeds = [joined(scanner, depot), joined(depot, scanner)];
+    let mut lines = vec![];
+    for (end, seed) in ["scanner's key", "depot's key"].iter().zip(&seeds) {
+        let mut key = [0; 4];
+        stretch_array(SETTINGS.width, seed, &mut key)?;
+        lines.push(format!("{end:17} {}", shown(&key)));
+    }
+    for (time, seed) in ["load", "load again"].iter().zip(&seeds) {
+        let (mut key, mut message) = ([0; 4], [0; 2]);
+        load_array(SETTINGS.width, seed, &mut key, &mut message)?;
+        let (key, message) = (shown(&key), shown(&message));
+        lines.push(format!("{time:17} {key}, message {message}"));
+    }
+    Ok(lines)
+}
+
+fn joined(own: [u32; MOST_SEED_WORDS], other: [u32; MOST_SEED_WORDS]) -> [u32; MOST_SEED_WORDS] {
+    std::array::from_fn(|place| own[place] ^ other[place])
+}
+
 fn shown(digest: &[u32]) -> String {
     let words: Vec<_> = digest.iter().map(|word| format!("{word:08x}")).collect();
     words.join(" ")
@@ -194,4 +248,14 @@ fn narrower_key_words_begin_the_wider_ones() {
         let due: Vec<_> = words[0].iter().map(|word| &word[..digits]).collect();
         assert_eq!(*narrow, due);
     }
+}
+
+#[test]
+fn the_shares_make_one_key_and_one_load() {
+    let lines = shares().unwrap();
+    let words: Vec<_> = lines.iter().map(|line| &line[18..]).collect();
+    assert_eq!(words[0], words[1]);
+    assert_eq!(words[2], words[3]);
+    // The load's key is the ends' key.
+    assert!(words[2].starts_with(&format!("{}, message ", words[0])));
 }

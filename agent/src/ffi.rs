@@ -60,6 +60,33 @@ mod entry {
 
         pub fn pairing_stretch(w: u32, seed: u32, out: *mut u32, out_words: usize) -> u32;
 
+        pub fn pairing_stretch_array(
+            w: u32,
+            seed: *const u32,
+            seed_words: usize,
+            out: *mut u32,
+            out_words: usize,
+        ) -> u32;
+
+        pub fn pairing_load(
+            w: u32,
+            seed: u32,
+            key: *mut u32,
+            key_words: usize,
+            message: *mut u32,
+            message_words: usize,
+        ) -> u32;
+
+        pub fn pairing_load_array(
+            w: u32,
+            seed: *const u32,
+            seed_words: usize,
+            key: *mut u32,
+            key_words: usize,
+            message: *mut u32,
+            message_words: usize,
+        ) -> u32;
+
         pub fn pairing_match(
             n: u32,
             first: *const u32,
@@ -168,6 +195,57 @@ pub fn digest_crew(
 pub fn stretch(width: u32, seed: u32, out: &mut [u32]) -> u32 {
     // SAFETY: the pointer and the length are one slice's.
     unsafe { entry::pairing_stretch(width, seed, out.as_mut_ptr(), out.len()) }
+}
+
+/// The number that `pairing_stretch_array` answers: 0 with the whole of `out` filled, or a
+/// refusal's.
+#[must_use]
+pub fn stretch_array(width: u32, seed: &[u32], out: &mut [u32]) -> u32 {
+    // SAFETY: each pointer and length is one slice's; `out` is borrowed apart from the seed.
+    unsafe {
+        entry::pairing_stretch_array(
+            width,
+            seed.as_ptr(),
+            seed.len(),
+            out.as_mut_ptr(),
+            out.len(),
+        )
+    }
+}
+
+/// The number that `pairing_load` answers: 0 with the whole of both rows filled, or a refusal's.
+#[must_use]
+pub fn load(width: u32, seed: u32, key: &mut [u32], message: &mut [u32]) -> u32 {
+    // SAFETY: each pointer and length is one slice's; both rows are borrowed apart.
+    unsafe {
+        entry::pairing_load(
+            width,
+            seed,
+            key.as_mut_ptr(),
+            key.len(),
+            message.as_mut_ptr(),
+            message.len(),
+        )
+    }
+}
+
+/// The number that `pairing_load_array` answers: 0 with the whole of both rows filled, or a
+/// refusal's.
+#[must_use]
+pub fn load_array(width: u32, seed: &[u32], key: &mut [u32], message: &mut [u32]) -> u32 {
+    // SAFETY: each pointer and length is one slice's; both rows are borrowed apart, and from the
+    // seed.
+    unsafe {
+        entry::pairing_load_array(
+            width,
+            seed.as_ptr(),
+            seed.len(),
+            key.as_mut_ptr(),
+            key.len(),
+            message.as_mut_ptr(),
+            message.len(),
+        )
+    }
 }
 
 /// The number that `pairing_match` answers: 100 for yes, 101 for no, or a refusal's.

@@ -24,9 +24,10 @@
 //! (2F + 1)·2^(w·t + 1) keys of t + 1 words, where F is (2^w − 1) div 10^d. Length is in words.
 //! Bytes are closed, so the first count holds of different bytes of any lengths: over all keys of
 //! T + n words, where both make at most T words and each is digested under as many first words of
-//! the key as it needs, at most 2^(w·T + n + n·(w−b)) make them agree. A key that [`stretch`] makes
-//! is one of at most 2^32, and no count is proved for those. Each row of a crew is the digest under
-//! one peer's key alone, so each peer has these counts.
+//! the key as it needs, at most 2^(w·T + n + n·(w−b)) make them agree. A key made from a seed is
+//! one of at most as many as there are such seeds, 2^32 plain ones or 2^(32·k) arrays of k words,
+//! and no count is proved for those. Each row of a crew is the digest under one peer's key alone,
+//! so each peer has these counts.
 
 #![deny(unsafe_code)]
 #![deny(missing_docs)]
@@ -47,6 +48,9 @@ pub const MOST_MESSAGE_WORDS: usize = 65_536;
 
 /// The most words of a key, and so of a stretch: those for the longest message and digest.
 pub const MOST_KEY_WORDS: usize = 65_544;
+
+/// The most words of a seed array.
+pub const MOST_SEED_WORDS: usize = 8;
 
 /// The most words of a digest.
 pub const MOST_DIGEST_WORDS: usize = 8;
@@ -202,7 +206,7 @@ pub fn digest_crew(
 /// ```
 ///
 /// So each word is below 2^w, and no digest of that width refuses such a key as `Word`. Below width
-/// 32 both ends need this version: before 0.5 the words were others.
+/// 32 both ends need 0.5 or later: before it the words were others.
 ///
 /// The counts over all keys are not proved for keys made so: there are at most 2^32 of them.
 ///
@@ -211,6 +215,82 @@ pub fn digest_crew(
 /// `Width`, or `Long` for more than [`MOST_KEY_WORDS`]; `key` then holds what it held.
 pub fn stretch(width: u32, seed: u32, key: &mut [u32]) -> Result<(), Refusal> {
     written(ffi::stretch(width, seed, key))
+}
+
+/// Fills the whole of `key` as [`stretch`] does, from MT19937 made new from an array of seed words
+/// by its published initialisation by array.
+///
+/// ```
+/// // The array, and the first of its outputs, that the generator's authors publish.
+/// let mut key = [0; 3];
+/// pairing_agent::stretch_array(32, &[0x123, 0x234, 0x345, 0x456], &mut key)?;
+/// assert_eq!(key, [1_067_595_299, 955_945_823, 477_289_528]);
+/// # Ok::<(), pairing_agent::Refusal>(())
+/// ```
+///
+/// An array of one word is not the plain seed of that word: both ends need the same kind. Arrays of
+/// different lengths can make one generator, as 2 and 2, 1 do: agree on the length too.
+///
+/// The counts over all keys are not proved for keys made so: from arrays of k words there are at
+/// most 2^(32·k) of them.
+///
+/// # Errors
+///
+/// `Width`, `Seed` for no words or more than [`MOST_SEED_WORDS`], or `Long` for more than
+/// [`MOST_KEY_WORDS`]; `key` then holds what it held.
+pub fn stretch_array(width: u32, seed: &[u32], key: &mut [u32]) -> Result<(), Refusal> {
+    written(ffi::stretch_array(width, seed, key))
+}
+
+/// Fills the whole of `key`, then the whole of `message` from the outputs that follow, by the rule
+/// of [`stretch`]: a load for a test bench, which the same seed makes again.
+///
+/// ```
+/// // The first outputs of seed 5489 are 0xd091bb5c, 0x22ae9ef6 and 0xe7e1faee.
+/// let (mut key, mut message) = ([0; 2], [0; 1]);
+/// pairing_agent::load(16, 5489, &mut key, &mut message)?;
+/// assert_eq!((key, message), ([0xd091, 0x22ae], [0xe7e1]));
+/// # Ok::<(), pairing_agent::Refusal>(())
+/// ```
+///
+/// So `key` is the row that [`stretch`] makes of the seed, and both rows end to end are one longer
+/// row of outputs. Neither length need go with the other; a digest of n words takes a key of n
+/// words more than the message.
+///
+/// # Errors
+///
+/// `Width`, or `Long` for a key of more than [`MOST_KEY_WORDS`] or a message of more than
+/// [`MOST_MESSAGE_WORDS`]; both rows then hold what they held.
+pub fn load(width: u32, seed: u32, key: &mut [u32], message: &mut [u32]) -> Result<(), Refusal> {
+    written(ffi::load(width, seed, key, message))
+}
+
+/// Fills the whole of `key` and of `message` as [`load`] does, from MT19937 made new as
+/// [`stretch_array`] makes it.
+///
+/// ```
+/// use pairing_agent::{digest_words, load_array, Settings};
+///
+/// let settings = Settings { width: 32, kept: 32, words: 1 };
+/// let (mut key, mut message) = ([0; 2], [0; 1]);
+/// load_array(settings.width, &[0x123, 0x234, 0x345, 0x456], &mut key, &mut message)?;
+/// assert_eq!((key, message), ([1_067_595_299, 955_945_823], [477_289_528]));
+/// // The load is fit to be digested.
+/// digest_words(settings, &message, &key, &mut [0])?;
+/// # Ok::<(), pairing_agent::Refusal>(())
+/// ```
+///
+/// # Errors
+///
+/// `Width`, `Seed` as for [`stretch_array`], or `Long` as for [`load`]; both rows then hold what
+/// they held.
+pub fn load_array(
+    width: u32,
+    seed: &[u32],
+    key: &mut [u32],
+    message: &mut [u32],
+) -> Result<(), Refusal> {
+    written(ffi::load_array(width, seed, key, message))
 }
 
 /// Whether two digests of `words` words agree at every place.

@@ -17,13 +17,15 @@ pub enum Refusal {
     Width = 1,
     /// The code is to have no digits, or more than the width can fill.
     Digits = 9,
+    /// The seed array has no words, or more than 8.
+    Seed = 11,
     /// No bits are kept, or more than the width has.
     Kept = 2,
     /// The digest is not to have 1 to 8 words.
     Count = 3,
     /// The crew is not of 1 to 16 peers.
     Peers = 10,
-    /// The message, or the row to stretch into, is too long.
+    /// The message, or a row to stretch or load into, is too long.
     Long = 4,
     /// The key's length does not go with the message's.
     Key = 5,
@@ -35,10 +37,11 @@ pub enum Refusal {
 
 impl Refusal {
     /// Every refusal, in the order of the tests.
-    pub const ALL: [Refusal; 10] = [
+    pub const ALL: [Refusal; 11] = [
         Refusal::State,
         Refusal::Width,
         Refusal::Digits,
+        Refusal::Seed,
         Refusal::Kept,
         Refusal::Count,
         Refusal::Peers,
@@ -68,8 +71,8 @@ impl Refusal {
         match self {
             Refusal::State => {
                 "The state of a stream or generator holds a number outside its range, or something \
-                 in a place not in use. Digest, code, crew, match and stretch take no state and \
-                 never answer this."
+                 in a place not in use. Digest, code, crew, match, stretch and load take no state \
+                 and never answer this."
             }
             Refusal::Width => {
                 "The width w is 0 or more than 32; for bytes, it is none of 8, 16 and 32."
@@ -78,12 +81,14 @@ impl Refusal {
                 "The code's digits d are 0, or 10^d is more than 2^w. Widths 30 to 32 take up to \
                  9 digits, widths 1 to 3 none."
             }
+            Refusal::Seed => "The seed array has no words, or more than 8.",
             Refusal::Kept => "The kept bits b are 0, or more than the width w.",
             Refusal::Count => "The digest words n are 0, or more than 8.",
             Refusal::Peers => "The peers p of a crew are 0, or more than 16.",
             Refusal::Long => {
-                "The message has more than 65,536 words, for bytes counted with the closing byte \
-                 0x80, or a key of more than 65,544 is stretched."
+                "The message, or the message row of a load, has more than 65,536 words, for bytes \
+                 counted with the closing byte 0x80, or a key of more than 65,544 is stretched or \
+                 loaded."
             }
             Refusal::Key => {
                 "The key does not have exactly n words more than the message, for bytes counted \
@@ -110,10 +115,11 @@ impl fmt::Display for Refusal {
                 "wrong code size: ask for 1 to 9 digits, fewer at a width below 30, or set a \
                  larger width"
             }
+            Refusal::Seed => "wrong seed size: give an array of 1 to 8 seed words",
             Refusal::Kept => "wrong kept bits: keep at least 1 bit and no more than the width",
             Refusal::Count => "wrong digest size: ask for 1 to 8 digest words",
             Refusal::Peers => "wrong crew size: pair 1 to 16 peers at a time",
-            Refusal::Long => "too long: shorten the message, or stretch into a shorter row",
+            Refusal::Long => "too long: shorten the message, or the row to stretch or load into",
             Refusal::Key => {
                 "wrong lengths: the key does not go with the message; \
                  check the word count and pair again"
@@ -140,11 +146,11 @@ mod tests {
     fn numbers_and_refusals_go_together() {
         let mut numbers = Refusal::ALL.map(Refusal::number);
         numbers.sort_unstable();
-        assert_eq!(numbers, [1, 2, 3, 4, 5, 6, 7, 8, 9, 10]);
+        assert_eq!(numbers, [1, 2, 3, 4, 5, 6, 7, 8, 9, 10, 11]);
         for refusal in Refusal::ALL {
             assert_eq!(Refusal::from_number(refusal.number()), Some(refusal));
         }
-        for number in [0, 11, 12, 99, 100, 101, 256 + 1, u32::MAX] {
+        for number in [0, 12, 13, 99, 100, 101, 256 + 1, u32::MAX] {
             assert_eq!(Refusal::from_number(number), None);
         }
     }

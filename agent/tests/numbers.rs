@@ -3,7 +3,7 @@
 
 #![forbid(unsafe_code)]
 
-use pairing_agent::{Refusal, MOST_CODE_BYTES, MOST_CODE_DIGITS};
+use pairing_agent::{Refusal, MOST_CODE_BYTES, MOST_CODE_DIGITS, MOST_SEED_WORDS};
 use pairing_agent::{MOST_DIGEST_WORDS, MOST_KEY_WORDS, MOST_MESSAGE_WORDS, MOST_PEERS};
 use std::collections::BTreeMap;
 use std::process::Command;
@@ -136,6 +136,8 @@ fn every_limit_is_the_same() {
     assert_eq!(key, message + digest);
     let peers = number_after(HEADER, "#define PAIRING_MOST_PEERS");
     assert_eq!(MOST_PEERS, peers);
+    let seed = number_after(HEADER, "#define PAIRING_MOST_SEED_WORDS");
+    assert_eq!(MOST_SEED_WORDS, seed);
     let digits = number_after(HEADER, "#define PAIRING_MOST_CODE_DIGITS");
     assert_eq!(MOST_CODE_DIGITS as usize, digits);
     let bytes = number_after(HEADER, "#define PAIRING_MOST_CODE_BYTES");

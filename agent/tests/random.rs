@@ -12,10 +12,22 @@ use std::collections::BTreeMap;
 /// Long rows are as rare as `cases` has them by itself.
 const RARE: usize = 1;
 
-/// Makes the calls and reports how often each answer was seen; each possible one must be.
+/// How many calls of each entry. Valgrind's run sets fewer.
+fn all_calls() -> u64 {
+    from_environment("PAIRING_RANDOM_CALLS", 200_000)
+}
+
+/// Those of an entry that is the stretch but for its seed or its rows, and takes longer.
+fn fewer_calls() -> u64 {
+    all_calls() / 4
+}
+
 fn tally<C: Call>(seed: u64, possible: &[u32], draw: impl Fn(&mut Random) -> C) {
-    // How many calls of each entry. Valgrind's run sets fewer.
-    let calls = from_environment("PAIRING_RANDOM_CALLS", 200_000);
+    tally_of(all_calls(), seed, possible, draw);
+}
+
+/// Makes the calls and reports how often each answer was seen; each possible one must be.
+fn tally_of<C: Call>(calls: u64, seed: u64, possible: &[u32], draw: impl Fn(&mut Random) -> C) {
     let entry = C::ENTRY;
     let mut random = Random::new(seed);
     let mut seen = BTreeMap::new();
@@ -68,7 +80,28 @@ fn digest_crew() {
 #[test]
 fn stretch() {
     tally(20_250_304, &[0, 1, 4], |random| {
-        cases::stretch(random, RARE)
+        cases::stretch::<u32>(random, RARE)
+    });
+}
+
+#[test]
+fn stretch_array() {
+    tally_of(fewer_calls(), 20_250_307, &[0, 1, 4, 11], |random| {
+        cases::stretch::<Vec<u32>>(random, RARE)
+    });
+}
+
+#[test]
+fn load() {
+    tally_of(fewer_calls(), 20_250_308, &[0, 1, 4], |random| {
+        cases::load::<u32>(random, RARE)
+    });
+}
+
+#[test]
+fn load_array() {
+    tally_of(fewer_calls(), 20_250_309, &[0, 1, 4, 11], |random| {
+        cases::load::<Vec<u32>>(random, RARE)
     });
 }
 

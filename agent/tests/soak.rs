@@ -1,5 +1,5 @@
 //! Ten million random calls through the C interface against independent implementations: for
-//! bytes, codes, crews and the stretch, others than those that the other tests compare with.
+//! bytes, codes, crews, stretches and loads, others than those that the other tests compare with.
 //!
 //! Not part of the gate: `make soak` runs it. It stops after ten minutes and says how far it came.
 //! PAIRING_SOAK_CALLS and PAIRING_SOAK_SEED set other numbers.
@@ -8,7 +8,7 @@
 
 mod common;
 
-use common::calls::{settings, Call, Code, Crew, Digest, Stretch};
+use common::calls::{settings, Call, Code, Crew, Digest, Load, Stretch};
 use common::paper::{self, Outcome};
 use common::random::Random;
 use common::{cases, from_environment};
@@ -82,13 +82,32 @@ impl Tally {
                 let call = cases::code(random, RARE);
                 self.make(&call, &code_due(&call), random);
             }
-            9 => {
-                let call = cases::stretch(random, RARE);
-                self.make(&call, &stretch_due(&call), random);
-            }
+            9 => self.make_a_filling_call(random),
             _ => {
                 let call = cases::digests_match(random);
                 self.make(&call, &call.due(), random);
+            }
+        }
+    }
+
+    /// A call of one of the four entries that fill rows from a seed.
+    fn make_a_filling_call(&mut self, random: &mut Random) {
+        match random.below(4) {
+            0 => {
+                let call = cases::stretch::<u32>(random, RARE);
+                self.make(&call, &stretch_due(&call), random);
+            }
+            1 => {
+                let call = cases::stretch::<Vec<u32>>(random, RARE);
+                self.make(&call, &stretch_due(&call), random);
+            }
+            2 => {
+                let call = cases::load::<u32>(random, RARE);
+                self.make(&call, &load_due(&call), random);
+            }
+            _ => {
+                let call = cases::load::<Vec<u32>>(random, RARE);
+                self.make(&call, &load_due(&call), random);
             }
         }
     }
@@ -193,37 +212,97 @@ fn code_due(call: &Code) -> Outcome<u8> {
     Outcome { answer: 0, out }
 }
 
-/// What the stretch must leave. The generator here is the recurrence over one growing sequence,
-/// with no state that is refilled.
-fn stretch_due(call: &Stretch) -> Outcome {
-    let w = call.width;
-    if !(1..=32).contains(&w) {
-        return refused(1, &call.out);
+/// What the stretch must leave.
+fn stretch_due(call: &Stretch<impl Filling>) -> Outcome {
+    filled_due(call.width, &call.seed, [&call.out, &[]])
+}
+
+/// What the load must leave: both rows end to end.
+fn load_due(call: &Load<impl Filling>) -> Outcome {
+    filled_due(call.width, &call.seed, [&call.key, &call.message])
+}
+
+/// What key row and message row must be, end to end.
+fn filled_due(w: u32, seed: &impl Filling, [key, message]: [&[u32]; 2]) -> Outcome {
+    let rows = [key, message].concat();
+    let too_long = key.len() > 65_544 || message.len() > 65_536;
+    match seed.filling() {
+        _ if !(1..=32).contains(&w) => refused(1, &rows),
+        None => refused(11, &rows),
+        Some(_) if too_long => refused(4, &rows),
+        Some(filling) => Outcome {
+            answer: 0,
+            out: outputs(filling, rows.len())
+                .map(|output| (output / 2u64.pow(32 - w)) as u32)
+                .collect(),
+        },
     }
-    if call.out.len() > 65_544 {
-        return refused(4, &call.out);
-    }
-    let size = 2u64.pow(32);
-    let mut x = vec![u64::from(call.seed)];
-    while x.len() < 624 {
-        let p = x[x.len() - 1];
-        x.push((1_812_433_253 * (p ^ (p / 2u64.pow(30))) + x.len() as u64) % size);
-    }
-    let due = (0..call.out.len()).map(|k| {
+}
+
+const SIZE: u64 = 2u64.pow(32);
+
+/// The outputs that follow a filling. The generator here is the recurrence over one growing
+/// sequence, with no state that is refilled.
+fn outputs(mut x: Vec<u64>, count: usize) -> impl Iterator<Item = u64> {
+    (0..count).map(move |k| {
         let y = x[k] / 2u64.pow(31) * 2u64.pow(31) + x[k + 1] % 2u64.pow(31);
         let twist = if y % 2 == 1 { 0x9908_b0df } else { 0 };
         let next = x[k + 397] ^ (y / 2) ^ twist;
         x.push(next);
         let mut y = next;
         y ^= y / 2u64.pow(11);
-        y ^= (y * 2u64.pow(7) % size) & 0x9d2c_5680;
-        y ^= (y * 2u64.pow(15) % size) & 0xefc6_0000;
-        y ^= y / 2u64.pow(18);
-        (y / 2u64.pow(32 - w)) as u32
-    });
-    Outcome {
-        answer: 0,
-        out: due.collect(),
+        y ^= (y * 2u64.pow(7) % SIZE) & 0x9d2c_5680;
+        y ^= (y * 2u64.pow(15) % SIZE) & 0xefc6_0000;
+        y ^ (y / 2u64.pow(18))
+    })
+}
+
+/// A seed, and the 624 words that it fills the generator with, unless it is refused.
+trait Filling {
+    fn filling(&self) -> Option<Vec<u64>>;
+}
+
+/// A word's bits with its upper two, times the factor.
+fn spread(word: u64, factor: u64) -> u64 {
+    (word ^ (word / 2u64.pow(30))) * factor % SIZE
+}
+
+impl Filling for u32 {
+    fn filling(&self) -> Option<Vec<u64>> {
+        let mut x = vec![u64::from(*self)];
+        while x.len() < 624 {
+            x.push((spread(x[x.len() - 1], 1_812_433_253) + x.len() as u64) % SIZE);
+        }
+        Some(x)
+    }
+}
+
+impl Filling for Vec<u32> {
+    /// Two rows of words over a plain filling, each word from the one before it and from the one
+    /// that stood at its place. Each row ends with place 1: the first has come to it again, the
+    /// second began after it.
+    fn filling(&self) -> Option<Vec<u64>> {
+        if self.is_empty() || self.len() > 8 {
+            return None;
+        }
+        let plain = 19_650_218u32.filling()?;
+        let mut first = vec![plain[0]];
+        for k in 1..=624 {
+            let stood = if k < 624 { plain[k] } else { first[1] };
+            let j = (k - 1) % self.len();
+            let mixed = stood ^ spread(first[k - 1], 1_664_525);
+            first.push((mixed + u64::from(self[j]) + j as u64) % SIZE);
+        }
+        // The last word comes to place 1.
+        first.swap_remove(1);
+        let mut second = vec![first[1]];
+        for place in (2..624).chain([1]) {
+            let mixed = first[place] ^ spread(second[second.len() - 1], 1_566_083_941);
+            second.push((mixed + SIZE - place as u64) % SIZE);
+        }
+        second.swap_remove(0);
+        second.insert(0, 0x8000_0000);
+        Some(second)
     }
 }
 

@@ -21,12 +21,24 @@ fn files_that_cannot_be_read_or_written() {
             &["code", "--key", file, "-"],
             &["digest", "--seed", &at_file, "-"],
             &["stretch", "--seed", &at_file, "1"],
+            &[
+                "load",
+                "--seed",
+                &at_file,
+                "--key-to=-",
+                "--message-to=f",
+                "1",
+                "1",
+            ],
             &["match", "--words", "1", "0x1", &at_file],
         ] {
             no_access(&reading, args, b"");
         }
         let writing = format!("cannot write '{file}': ");
         let args = ["count", "--width", "2", "--svg", file];
+        no_access(&writing, &args, b"");
+        let load = ["load", "--seed", "1", "1", "1", "--key-to", file];
+        let args = [&load[..], &["--message-to", "-"]].concat();
         no_access(&writing, &args, b"");
     }
     // A name is shown fit for a terminal.

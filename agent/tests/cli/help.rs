@@ -1,9 +1,10 @@
 //! Help, and the version.
 
 use crate::run::accepted;
-use pairing_agent::{MOST_CODE_DIGITS, MOST_DIGEST_WORDS, MOST_KEY_WORDS, MOST_PEERS};
+use pairing_agent::{MOST_CODE_DIGITS, MOST_DIGEST_WORDS, MOST_KEY_WORDS};
+use pairing_agent::{MOST_MESSAGE_WORDS, MOST_PEERS, MOST_SEED_WORDS};
 
-const COMMANDS: [(&str, &[&str]); 8] = [
+const COMMANDS: [(&str, &[&str]); 9] = [
     (
         "digest",
         &["--width", "--kept", "--words", "--seed", "--key"],
@@ -15,6 +16,7 @@ const COMMANDS: [(&str, &[&str]); 8] = [
     ("code", &["--width", "--digits", "--seed", "--key"]),
     ("crew", &["--width", "--kept", "--words", "--seeds"]),
     ("stretch", &["--width", "--seed"]),
+    ("load", &["--width", "--seed", "--key-to", "--message-to"]),
     ("match", &["--words"]),
     ("count", &["--width", "--svg"]),
     ("explain", &[]),
@@ -89,9 +91,28 @@ fn help_has_the_limits_and_what_is_proved() {
     let plain = stretch.split_whitespace().collect::<Vec<_>>().join(" ");
     for part in [
         "proved for keys of t + n words drawn uniformly",
-        "a stretched key is one of at most 2^32, and no count is proved for those.",
+        "a stretched key is one of at most 2^32, from arrays of k words one of at most 2^(32*k), \
+         and no count is proved for those.",
     ] {
         assert!(plain.contains(part), "{stretch}");
+    }
+
+    let load = accepted(&["load", "--help"], b"");
+    for limit in [
+        format!("how many key words, up to {MOST_KEY_WORDS}\n"),
+        format!("how many message words, up to {MOST_MESSAGE_WORDS}\n"),
+    ] {
+        assert!(load.contains(&limit), "{load}");
+    }
+}
+
+#[test]
+fn help_has_both_kinds_of_seeds() {
+    let array = format!("a number, or an array of 1 to {MOST_SEED_WORDS} numbers with commas");
+    for (command, options) in COMMANDS {
+        let text = accepted(&[command, "--help"], b"");
+        let takes_a_seed = options.contains(&"--seed");
+        assert_eq!(text.contains(&array), takes_a_seed, "{text}");
     }
 }
 

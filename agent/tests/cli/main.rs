@@ -9,6 +9,7 @@ mod digests;
 mod explain;
 mod files;
 mod help;
+mod load;
 mod matches;
 mod output;
 mod refusals;

@@ -4,11 +4,19 @@ use crate::run::{no_access, redirected, Scratch, PROGRAM};
 use std::process::{Command, Stdio};
 
 /// Runs that print something.
-const PRINTING: [&[&str]; 6] = [
+const PRINTING: [&[&str]; 7] = [
     &["--help"],
     &["--version"],
     &["help", "digest"],
     &["stretch", "--seed", "1", "65544"],
+    &[
+        "load",
+        "--seed=1,",
+        "--key-to=/dev/null",
+        "--message-to=-",
+        "2",
+        "1",
+    ],
     &["match", "--words", "1", "0x1", "0x1"],
     &["match", "--words", "1", "0x1", "0x2"],
 ];
@@ -77,7 +85,7 @@ fn a_null_output_is_no_failure() {
         ">>/dev/null",
         "<&- >/dev/null",
     ] {
-        for (args, status) in PRINTING.into_iter().zip([0, 0, 0, 0, 0, 1]) {
+        for (args, status) in PRINTING.into_iter().zip([0, 0, 0, 0, 0, 0, 1]) {
             let run = redirected(redirections, args);
             let ended = (run.status, run.err.as_str());
             assert_eq!(ended, (status, ""), "{redirections}, {args:?}");

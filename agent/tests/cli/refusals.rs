@@ -178,6 +178,57 @@ fn refusals_of_a_stretch() {
     }
 }
 
+/// Seed comes before all tests but those of width and digits.
+#[test]
+fn refusals_of_a_seed() {
+    let many = Scratch::new("seed-of-many", "1,\n".repeat(1_000_000));
+    let long = "300 ".repeat(65_537);
+    for (seed, words) in [
+        (",", "0 seed words"),
+        ("1,2,3,4,5,6,7,8,9", "9 seed words"),
+        ("1,2,3,4,5,6,7,8,9,10,", "10 seed words"),
+        (&many.at(), "1,000,000 seed words"),
+    ] {
+        let figures = format!("{words}; 1 to 8");
+        for args in [
+            &["stretch", "4"][..],
+            &["stretch", "65545"],
+            &["digest", "-"],
+            &["digest", "--kept", "0", "--words", "9", "-"],
+            &["digest-words", "-"],
+            &["digest-words", "--width", "2", "-"],
+            &["code", "-"],
+            &["code", "--width", "4", "--digits", "1", "-"],
+        ] {
+            let args = [args, &["--seed", seed]].concat();
+            refused(Refusal::Seed, &figures, &args, b"300");
+            refused(Refusal::Seed, &figures, &args, long.as_bytes());
+        }
+    }
+}
+
+#[test]
+fn width_and_digits_come_before_a_seed() {
+    for seed in [",", "1,2,3,4,5,6,7,8,9"] {
+        for (refusal, figures, args) in [
+            (Refusal::Width, "width 24; 8, 16 or 32", "digest --width=24"),
+            (Refusal::Width, "width 0; 1 to 32", "digest-words --width=0"),
+            (Refusal::Width, "width 0; 1 to 32", "code --width=0"),
+            (
+                Refusal::Digits,
+                "0 digits; 1 to 9 at width 32",
+                "code --digits=0",
+            ),
+        ] {
+            let mut args: Vec<_> = args.split(' ').collect();
+            args.extend(["--seed", seed, "-"]);
+            refused(refusal, figures, &args, b"1");
+        }
+        let args = ["stretch", "--width", "33", "--seed", seed, "4"];
+        refused(Refusal::Width, "width 33; 1 to 32", &args, b"");
+    }
+}
+
 #[test]
 fn refusals_of_a_match() {
     for (n, shown) in [("0", "0"), ("9", "9"), (MOST, MOST_SHOWN)] {

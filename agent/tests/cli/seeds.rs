@@ -38,9 +38,11 @@ fn a_seed_stands_for_its_stretched_key() {
 }
 
 /// The commands that take a seed, with the rest of their arguments.
-fn with_seed<'a>(seed: &'a str, message: &'a str) -> [Vec<&'a str>; 4] {
+fn with_seed<'a>(seed: &'a str, message: &'a str) -> [Vec<&'a str>; 5] {
+    let load = ["--key-to", "-", "--message-to", "/dev/null", "3", "3"];
     [
         vec!["stretch", "--seed", seed, "3"],
+        [&["load", "--seed", seed], &load[..]].concat(),
         vec!["digest", "--seed", seed, message],
         vec!["digest-words", "--seed", seed, message],
         vec!["code", "--seed", seed, message],
@@ -70,20 +72,90 @@ fn seeds_from_a_file_and_from_standard_input() {
     // The seed in a file, and the message from standard input.
     let file = Scratch::new("seed-beside", "5489");
     let seed = format!("--seed={}", file.at());
-    assert_eq!(accepted(&["digest", &seed, "-"], b"1 2 3"), due[1]);
+    assert_eq!(accepted(&["digest", &seed, "-"], b"1 2 3"), due[2]);
+}
+
+/// A comma makes an array, also of one word, which is not the plain seed. One may close it.
+#[test]
+fn arrays_from_an_argument_a_file_and_standard_input() {
+    let message = Scratch::new("array-message", "1 2 3");
+    let by = |seed: &str, input: &[u8]| {
+        with_seed(seed, message.path()).map(|args| accepted(&args, input))
+    };
+    for (array, arguments, texts) in [
+        (
+            "0x123,0x234,0x345,0x456",
+            &["291,564,837,1110", "0x123,564,0x345,1110,"][..],
+            &[
+                "291,564,837,1110",
+                " 0x123 ,\t0x234,0x345 , 0x456\n",
+                "291,\r\n564,\r\n837,\r\n1110,\r\n",
+                "\u{feff}291\n,564\n,837\n,1110",
+            ][..],
+        ),
+        ("5,", &["0x5,"], &["5,", "5,\n", " 5\n , \n"]),
+        (
+            "0,0,0,0,0,0,0,0xffffffff",
+            &["0,0,0,0,0,0,0,4294967295,"],
+            &["0, 0, 0, 0\n, 0, 0, 0, 4294967295"],
+        ),
+    ] {
+        let due = by(array, b"");
+        for argument in arguments {
+            assert_eq!(by(argument, b""), due, "{argument}");
+        }
+        for text in texts {
+            let file = Scratch::new("array", text);
+            assert_eq!(by(&file.at(), b""), due, "{text:?}");
+            assert_eq!(by("@-", text.as_bytes()), due, "{text:?}");
+        }
+    }
+    for (array, plain) in by("5,", b"").iter().zip(by("5", b"")) {
+        assert_ne!(*array, plain);
+    }
+}
+
+/// The same key by way of a file, for every size of an array.
+#[test]
+fn an_array_stands_for_its_stretched_key() {
+    let message = Scratch::new("array-key-message", "1 2 3");
+    for words in 1..=8u32 {
+        let array: String = (1..=words).map(|word| format!("{word},")).collect();
+        let key = accepted(&["stretch", "--width", "24", "--seed", &array, "4"], b"");
+        let key = Scratch::new("array-key", key);
+        for command in [&["digest-words"][..], &["code"]] {
+            let settings = [command, &["--width", "24", message.path()]].concat();
+            let by_key = [&settings[..], &["--key", key.path()]].concat();
+            let by_seed = [&settings[..], &["--seed", &array]].concat();
+            assert_eq!(accepted(&by_key, b""), accepted(&by_seed, b""), "{array}");
+        }
+    }
 }
 
 #[test]
-fn a_seed_is_one_number() {
+fn texts_that_are_no_seed() {
     let message = Scratch::new("one-seed-message", "1 2 3");
+    let held = |numbers: &str, commas: &str| {
+        let seed = "a seed is one number, or several with commas between";
+        format!(" holds {numbers} and {commas}; {seed}\n")
+    };
     for (text, why) in [
-        ("", " holds 0 numbers; a seed is one"),
-        (" \n\r\n", " holds 0 numbers; a seed is one"),
-        ("\u{feff}", " holds 0 numbers; a seed is one"),
-        ("1 2", " holds 2 numbers; a seed is one"),
-        ("1\n2\n3\n", " holds 3 numbers; a seed is one"),
-        ("1\nx\n", ", line 2: 'x' is no number"),
-        ("4294967296", ", line 1: '4294967296' is more than"),
+        ("", held("0 numbers", "0 commas")),
+        (" \n\r\n", held("0 numbers", "0 commas")),
+        ("\u{feff}", held("0 numbers", "0 commas")),
+        ("1 2", held("2 numbers", "0 commas")),
+        ("1\n2\n3\n", held("3 numbers", "0 commas")),
+        ("1, 2 3", held("3 numbers", "1 comma")),
+        ("1 2, 3,", held("3 numbers", "2 commas")),
+        ("1,,2", held("2 numbers", "2 commas")),
+        ("1,\n,\n2", held("2 numbers", "2 commas")),
+        (",1", held("1 number", "1 comma")),
+        ("1,,", held("1 number", "2 commas")),
+        (", ,", held("0 numbers", "2 commas")),
+        ("1\nx\n", ", line 2: 'x' is no number".into()),
+        ("1,\n2,y,\n", ", line 2: 'y' is no number".into()),
+        ("4294967296", ", line 1: '4294967296' is more than".into()),
+        ("1,00", ", line 1: '00' begins with 0".into()),
     ] {
         let file = Scratch::new("bad-seed", text);
         for args in with_seed(&file.at(), message.path()) {
@@ -98,6 +170,33 @@ fn a_seed_is_one_number() {
     }
     for args in with_seed("@", message.path()) {
         no_access("cannot read ''", &args, b"");
+    }
+}
+
+/// In an argument, the same and white space.
+#[test]
+fn arguments_that_are_no_seed() {
+    let message = Scratch::new("argument-message", "1 2 3");
+    for (argument, why) in [
+        (
+            "",
+            "--seed: '' holds 0 numbers and 0 commas; a seed is one number",
+        ),
+        (
+            "1,,2",
+            "--seed: '1,,2' holds 2 numbers and 2 commas; a seed",
+        ),
+        (",1", "--seed: ',1' holds 1 number and 1 comma; a seed is"),
+        (",,", "--seed: ',,' holds 0 numbers and 2 commas; a seed is"),
+        ("1 2", "--seed: '1 2' is no number"),
+        ("1, 2", "--seed: ' 2' is no number"),
+        ("1,x", "--seed: 'x' is no number"),
+        ("1,-2", "--seed: '-2' is no number"),
+        ("1,4294967296,", "--seed: '4294967296' is more than"),
+    ] {
+        for args in with_seed(argument, message.path()) {
+            bad_usage(why, &args, b"");
+        }
     }
 }
 

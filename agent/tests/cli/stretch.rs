@@ -31,6 +31,24 @@ fn stretch_prints_the_published_outputs() {
     );
 }
 
+/// The array and its first outputs are published.
+#[test]
+fn stretch_takes_an_array() {
+    let due = [1_067_595_299u32, 955_945_823, 477_289_528];
+    for (w, unused) in [("32", 0), ("24", 8), ("1", 31)] {
+        let args = [
+            "stretch",
+            "--width",
+            w,
+            "--seed",
+            "0x123,0x234,0x345,0x456",
+            "3",
+        ];
+        let due = due.map(|output| format!("{:#010x}\n", output >> unused));
+        assert_eq!(accepted(&args, b""), due.concat(), "w {w}");
+    }
+}
+
 #[test]
 fn the_longest_stretch() {
     let most = pairing_agent::MOST_KEY_WORDS;

@@ -29,6 +29,10 @@ fn bad_numbers() {
     for number in BAD_NUMBERS {
         let shown = format!("'{number}'");
         for option in ["--width", "--kept", "--words", "--seed"] {
+            // A comma makes a seed an array.
+            if option == "--seed" && number.contains(',') {
+                continue;
+            }
             let option = format!("{option}={number}");
             let mut args = vec!["digest-words", &option, "-"];
             if !option.starts_with("--seed") {
@@ -39,6 +43,10 @@ fn bad_numbers() {
         let digits = format!("--digits={number}");
         bad_usage(&shown, &["code", &digits, "--seed", "1", "-"], b"1");
         bad_usage(&shown, &["stretch", "--seed", "1", "--", number], b"");
+        let load = ["load", "--seed=1", "--key-to=-", "--message-to=-", "--"];
+        for counts in [[number, "1"], ["1", number]] {
+            bad_usage(&shown, &[&load[..], &counts].concat(), b"");
+        }
         bad_usage(&shown, &["match", "--words", number, "0x1", "0x1"], b"");
         bad_usage(&shown, &["count", "--width", number], b"");
         bad_usage(&shown, &["explain", "--", number], b"");
@@ -107,6 +115,22 @@ fn bad_arguments() {
         ("only one of message, seeds and keys", "crew - k -"),
         ("--seed is missing", "stretch 4"),
         ("COUNT is missing", "stretch --seed 1"),
+        ("--seed is missing", "load --key-to k --message-to m 2 1"),
+        ("--key-to is missing", "load --seed 1 --message-to m 2 1"),
+        ("--message-to is missing", "load --seed 1 --key-to k 2 1"),
+        (
+            "KEY_COUNT is missing",
+            "load --seed 1 --key-to k --message-to m",
+        ),
+        (
+            "MESSAGE_COUNT is missing",
+            "load --seed 1 --key-to k --message-to m 2",
+        ),
+        (
+            "3 is one argument too many",
+            "load --seed 1 --key-to k --message-to m 2 1 3",
+        ),
+        ("--key is no option", "load --seed 1 --key k 2 1"),
         ("--words is missing", "match 0x1 0x1"),
         ("SECOND is missing", "match --words 1 0x1"),
         (
@@ -136,6 +160,8 @@ fn wrong_usage_says_where_the_help_is() {
         ("pairing code", &["code", "--digits", "x"]),
         ("pairing crew", &["crew", "-"]),
         ("pairing stretch", &["stretch", "--seed", "1"]),
+        ("pairing stretch", &["stretch", "--seed", "1,,2", "3"]),
+        ("pairing load", &["load", "--seed", "1"]),
         ("pairing match", &["match", "--words=1", "172", "0x1"]),
     ] {
         let run = pairing(args);

@@ -5,6 +5,7 @@ use super::mt19937;
 use super::paper::{self, Outcome};
 use super::part::Part;
 use super::random::Random;
+use super::seed::Seed;
 use pairing_agent::{ffi, Refusal, Settings};
 use std::fmt::Debug;
 
@@ -340,39 +341,144 @@ impl Call for Crew {
     }
 }
 
-/// A call of the stretch.
-#[derive(Clone, Debug)]
-pub struct Stretch {
-    pub width: u32,
-    pub seed: u32,
-    pub out: Vec<u32>,
+/// The rows of a call that fills them from a seed. A stretch fills no message.
+struct Filled<'a> {
+    seed: &'a [u32],
+    key: &'a [u32],
+    message: &'a [u32],
 }
 
-impl Call for Stretch {
-    const ENTRY: &'static str = "stretch";
-    type Place = u32;
-
-    fn due(&self) -> Outcome {
-        mt19937::stretch(self.width, self.seed, &self.out)
-    }
-
-    fn number(&self, due: &Outcome, random: &mut Random) -> Made {
-        let mut out = Lent::new(&self.out, random);
-        let answer = ffi::stretch(self.width, self.seed, out.row_mut());
-        let rows = [("output", out.is_now(&due.out))];
+impl Filled<'_> {
+    fn number(
+        &self,
+        due: &Outcome,
+        random: &mut Random,
+        call: impl FnOnce(&[u32], &mut [u32], &mut [u32]) -> u32,
+    ) -> Made {
+        let seed = Lent::new(self.seed, random);
+        let mut key = Lent::new(self.key, random);
+        let mut message = Lent::new(self.message, random);
+        let answer = call(seed.row(), key.row_mut(), message.row_mut());
+        let (due_key, due_message) = due.out.split_at(self.key.len());
+        let rows = [
+            ("key", key.is_now(due_key)),
+            ("message", message.is_now(due_message)),
+            ("seed", seed.is_as_lent()),
+        ];
         Made::new(answer, due, &rows)
     }
 
-    fn result(&self, due: &Outcome) -> Made {
-        let mut out = boxed(&self.out);
-        let result = pairing_agent::stretch(self.width, self.seed, &mut out);
-        let rows = [("output", *out == due.out)];
+    fn result(
+        &self,
+        due: &Outcome,
+        call: impl FnOnce(&[u32], &mut [u32], &mut [u32]) -> Result<(), Refusal>,
+    ) -> Made {
+        let seed = boxed(self.seed);
+        let mut key = boxed(self.key);
+        let mut message = boxed(self.message);
+        let result = call(&seed, &mut key, &mut message);
+        let (due_key, due_message) = due.out.split_at(self.key.len());
+        let rows = [
+            ("key", *key == *due_key),
+            ("message", *message == *due_message),
+            ("seed", *seed == *self.seed),
+        ];
         Made::new(number_of(result), due, &rows)
     }
 
     fn sizes(&self) -> String {
-        let Stretch { width, seed, out } = self;
-        format!("width {width}, seed {seed}, output of {}", out.len())
+        format!(
+            "seed of {}, key of {}, message of {}",
+            self.seed.len(),
+            self.key.len(),
+            self.message.len()
+        )
+    }
+}
+
+/// A call of the stretch, from a plain seed or an array.
+#[derive(Clone, Debug)]
+pub struct Stretch<S> {
+    pub width: u32,
+    pub seed: S,
+    pub out: Vec<u32>,
+}
+
+impl<S: Seed> Stretch<S> {
+    fn rows(&self) -> Filled<'_> {
+        Filled {
+            seed: self.seed.words(),
+            key: &self.out,
+            message: &[],
+        }
+    }
+}
+
+impl<S: Seed> Call for Stretch<S> {
+    const ENTRY: &'static str = S::STRETCH;
+    type Place = u32;
+
+    fn due(&self) -> Outcome {
+        mt19937::stretch(self.width, &self.seed, &self.out)
+    }
+
+    fn number(&self, due: &Outcome, random: &mut Random) -> Made {
+        self.rows().number(due, random, |seed, out, _| {
+            S::STRETCH_NUMBER(self.width, seed, out)
+        })
+    }
+
+    fn result(&self, due: &Outcome) -> Made {
+        self.rows()
+            .result(due, |seed, out, _| S::STRETCH_RESULT(self.width, seed, out))
+    }
+
+    fn sizes(&self) -> String {
+        format!("width {}, {}", self.width, self.rows().sizes())
+    }
+}
+
+/// A call of the load, from a plain seed or an array.
+#[derive(Clone, Debug)]
+pub struct Load<S> {
+    pub width: u32,
+    pub seed: S,
+    pub key: Vec<u32>,
+    pub message: Vec<u32>,
+}
+
+impl<S: Seed> Load<S> {
+    fn rows(&self) -> Filled<'_> {
+        Filled {
+            seed: self.seed.words(),
+            key: &self.key,
+            message: &self.message,
+        }
+    }
+}
+
+impl<S: Seed> Call for Load<S> {
+    const ENTRY: &'static str = S::LOAD;
+    type Place = u32;
+
+    fn due(&self) -> Outcome {
+        mt19937::load(self.width, &self.seed, &self.key, &self.message)
+    }
+
+    fn number(&self, due: &Outcome, random: &mut Random) -> Made {
+        self.rows().number(due, random, |seed, key, message| {
+            S::LOAD_NUMBER(self.width, seed, key, message)
+        })
+    }
+
+    fn result(&self, due: &Outcome) -> Made {
+        self.rows().result(due, |seed, key, message| {
+            S::LOAD_RESULT(self.width, seed, key, message)
+        })
+    }
+
+    fn sizes(&self) -> String {
+        format!("width {}, {}", self.width, self.rows().sizes())
     }
 }
 

@@ -2,10 +2,11 @@
 //!
 //! `rare` makes long rows that many times rarer, for tests that make more calls.
 
-use super::calls::{self, Code, Crew, Digest, Match, Stretch};
+use super::calls::{self, Code, Crew, Digest, Load, Match, Stretch};
 use super::paper;
 use super::part::Part;
 use super::random::Random;
+use super::seed::Seed;
 use pairing_agent::Settings;
 use std::mem::size_of;
 
@@ -233,17 +234,72 @@ pub fn code(random: &mut Random, rare: usize) -> Code {
     }
 }
 
-/// Most rows are short; some stand around a refill, a few around the longest.
-pub fn stretch(random: &mut Random, rare: usize) -> Stretch {
-    let width = if random.once_in(6) {
+/// What the two kinds of seeds draw each in its own way.
+pub trait DrawnSeed: Seed {
+    fn drawn(random: &mut Random) -> Self;
+}
+
+impl DrawnSeed for u32 {
+    fn drawn(random: &mut Random) -> u32 {
+        match random.below(8) {
+            0 => random.below(20) as u32,
+            1 => u32::MAX - random.below(20) as u32,
+            2 => 1 << random.below(32),
+            _ => random.word(),
+        }
+    }
+}
+
+impl DrawnSeed for Vec<u32> {
+    /// Now and then of no words or too many; often of words at the ends of the range.
+    fn drawn(random: &mut Random) -> Vec<u32> {
+        let words = if random.once_in(6) {
+            // As many as can be lent.
+            outside(random, 9).min(700) as usize
+        } else {
+            1 + random.below(8)
+        };
+        let style = random.below(8);
+        words_below(random, 32, words, style)
+    }
+}
+
+/// A call of the stretch, from a plain seed or an array.
+pub fn stretch<S: DrawnSeed>(random: &mut Random, rare: usize) -> Stretch<S> {
+    let words = filled_length(random, rare, 65_544);
+    Stretch {
+        width: filled_width(random),
+        seed: S::drawn(random),
+        out: random.row(words),
+    }
+}
+
+/// A call of the load, from a plain seed or an array.
+pub fn load<S: DrawnSeed>(random: &mut Random, rare: usize) -> Load<S> {
+    let key_words = filled_length(random, rare, 65_544);
+    let message_words = filled_length(random, rare, paper::MOST_WORDS);
+    Load {
+        width: filled_width(random),
+        seed: S::drawn(random),
+        key: random.row(key_words),
+        message: random.row(message_words),
+    }
+}
+
+fn filled_width(random: &mut Random) -> u32 {
+    if random.once_in(6) {
         outside(random, 33)
     } else {
         1 + random.below(32) as u32
-    };
-    let words = if random.once_in(300 * rare) {
-        65_545 + random.below(3)
+    }
+}
+
+/// Most rows are short; some stand around a refill, a few around the longest.
+fn filled_length(random: &mut Random, rare: usize, most: usize) -> usize {
+    if random.once_in(300 * rare) {
+        most + 1 + random.below(3)
     } else if random.once_in(1_500 * rare) {
-        65_544 - random.below(3)
+        most - random.below(3)
     } else if random.once_in(3 * rare) {
         match random.below(10) {
             0..=2 => 622 + random.below(5),
@@ -252,17 +308,6 @@ pub fn stretch(random: &mut Random, rare: usize) -> Stretch {
         }
     } else {
         random.below(40)
-    };
-    let seed = match random.below(8) {
-        0 => random.below(20) as u32,
-        1 => u32::MAX - random.below(20) as u32,
-        2 => 1 << random.below(32),
-        _ => random.word(),
-    };
-    Stretch {
-        width,
-        seed,
-        out: random.row(words),
     }
 }
 

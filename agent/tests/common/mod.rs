@@ -11,21 +11,42 @@ pub mod mt19937;
 pub mod paper;
 pub mod part;
 pub mod random;
+pub mod seed;
 
-/// Makes each of these functions over the parts of a message a test for words and a test for bytes.
+/// Makes each of these functions over a type a test for one type and a test for another.
 #[allow(unused_macros)]
-macro_rules! of_both_digests {
-    ($($what:ident)*) => {
-        mod words {
-            $(#[test] fn $what() { super::$what::<u32>(); })*
+macro_rules! of_both {
+    ($one:ident: $first:ty, $other:ident: $second:ty; $($what:ident)*) => {
+        mod $one {
+            $(#[test] fn $what() { super::$what::<$first>(); })*
         }
-        mod bytes {
-            $(#[test] fn $what() { super::$what::<u8>(); })*
+        mod $other {
+            $(#[test] fn $what() { super::$what::<$second>(); })*
         }
     };
 }
 #[allow(unused_imports)]
+pub(crate) use of_both;
+
+/// The same for functions over the parts of a message: for words and for bytes.
+#[allow(unused_macros)]
+macro_rules! of_both_digests {
+    ($($what:ident)*) => {
+        $crate::common::of_both! { words: u32, bytes: u8; $($what)* }
+    };
+}
+#[allow(unused_imports)]
 pub(crate) use of_both_digests;
+
+/// The same for functions over the kinds of seeds: for plain ones and for arrays.
+#[allow(unused_macros)]
+macro_rules! of_both_seeds {
+    ($($what:ident)*) => {
+        $crate::common::of_both! { plain: u32, array: Vec<u32>; $($what)* }
+    };
+}
+#[allow(unused_imports)]
+pub(crate) use of_both_seeds;
 
 /// The number that the environment sets under that name, or else the other.
 pub fn from_environment(name: &str, otherwise: u64) -> u64 {

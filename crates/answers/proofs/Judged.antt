@@ -10,7 +10,7 @@ use borrow.Author.Tests.{le-ltb, eq-eqb, ne-eqb, ltb-false, eqb-true, eqb-false,
 use Rattle.counts.specs.Digest.{fits}
 use Rattle.counts.specs.Corollaries.{InRange}
 use Rattle.answers.specs.Answers.{Test, test, firstOf, Judges, noneOf}
-use Rattle.answers.specs.Table.{badWidth, badByteWidth, badKept, badCount, tooLong, badKey, smallTray, badRows, badWords, badDigits, badPeers, wordTest}
+use Rattle.answers.specs.Table.{badWidth, badByteWidth, badKept, badCount, tooLong, badKey, smallTray, badRows, badWords, badDigits, badPeers, badSeed, wordTest}
 use Rattle.counts.proofs.Fits.{both}
 
 -- r is what the row's function answers, x what the tests after it give
@@ -137,6 +137,10 @@ module _ (p : ℕ) where
   pub peers-pass : 1 ≤ p → p ≤ 16 → badPeers p ≡ false
   unfolding badPeers
   peers-pass h k = rw (le-ltb p 1 h, le-ltb 16 p k)
+
+pub seed-passed : (words : ℕ) → badSeed words ≡ false → (1 ≤ words) × (words ≤ 8)
+unfolding badSeed
+seed-passed words e = let p = either (ltb words 1) (ltb 8 words) e in (ltb-false words 1 (p .0), ltb-false 8 words (p .1))
 
 -- the most, or as many as are asked, against what there is
 module _ (a x : ℕ) where

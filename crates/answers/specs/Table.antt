@@ -1,5 +1,5 @@
 -- The rows of document 01's table "Numbers the agent sees": for each the condition, and the test with its number.
--- A call's answer lists its tests in the order in which the document has them tested. 11 to 21 belong to later calls.
+-- A call's answer lists its tests in the order in which the document has them tested. 12 to 21 belong to later calls.
 use mathlib.Core.Bool.{Bool, not, _&&_, _||_}
 use mathlib.Core.List.{List, _++_}
 use Prim.Native.Nat.{ℕ, _^_}
@@ -93,6 +93,13 @@ badPeers p = ltb p 1 || ltb 16 p
 
 abbrev pub peersTest : ℕ → Test
 peersTest p = test 10 (badPeers p)
+
+-- 11 Seed (02, "Seven"): a seed array of no words, or of more than 8
+unfoldable pub badSeed : ℕ → Bool
+badSeed words = ltb words 1 || ltb 8 words
+
+abbrev pub seedTest : ℕ → Test
+seedTest words = test 11 (badSeed words)
 
 -- 8 State, a row of a state: n words below 2^w, and every unused place zero, the only number below 2^0
 unfoldable pub fitRow : ℕ → ℕ → List ℕ → Bool

@@ -3,7 +3,7 @@ pub mod decimal;
 pub mod range;
 pub mod table;
 
-// 0 is an accepted call. 11 to 21 belong to later calls.
+// 0 is an accepted call. 12 to 21 belong to later calls.
 pub const WIDTH: u32 = 1;
 
 pub const KEPT: u32 = 2;
@@ -24,11 +24,13 @@ pub const DIGITS: u32 = 9;
 
 pub const PEERS: u32 = 10;
 
+pub const SEED: u32 = 11;
+
 pub const MATCH: u32 = 100;
 
 pub const NO_MATCH: u32 = 101;
 
-// The most message words of a digest or a stream, and the most words of a stretch.
+// The most message words of a digest, a stream or a load, and the most words of a stretch or of a load's key.
 pub const MOST_MESSAGE: usize = 65_536;
 
 pub const MOST_STRETCH: usize = 65_544;

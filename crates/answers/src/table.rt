@@ -1,7 +1,7 @@
 // Whether the condition of a row of the table holds of a call: one function for each row.
 ghost use mathlib.Core.Path.{_≡_};
 ghost use Prim.Native.Nat.{min};
-ghost use Rattle.answers.specs.Table.{badWidth, badByteWidth, badKept, badCount, tooLong, badKey, smallTray, badRows, badWords, badDigits, badPeers, fitRow};
+ghost use Rattle.answers.specs.Table.{badWidth, badByteWidth, badKept, badCount, tooLong, badKey, smallTray, badRows, badWords, badDigits, badPeers, badSeed, fitRow};
 use crate::decimal::power_of_ten;
 use crate::range::row_fits;
 
@@ -114,6 +114,16 @@ pub fn bad_peers(p: u32) -> bool
         return true;
     }
     16 < p
+}
+
+// 11 Seed.
+pub fn bad_seed(words: usize) -> bool
+    ensures { λ r. ⌜ r ≡ badSeed words ⌝ }
+{
+    if words < 1 {
+        return true;
+    }
+    8 < words
 }
 
 // 8 State, a row of a state. Only zero is below 2^0.

@@ -1,23 +1,17 @@
--- A generator's words and outputs are below 2^32, so key words of w bits are below 2^w, and a stretched row is a key that fits.
-use Prim.Native.Nat.{ℕ, zero, suc, _+_, _-_, _*_, _/_, _%_, _^_, _≤_, _<_}
-use mathlib.Core.Path.{_≡_, refl, sym, ap, subst, _∙_}
+-- A generator's words and outputs are below 2^32, however it was made new.
+use Prim.Native.Nat.{ℕ, zero, suc, _+_, _*_, _/_, _%_, _^_, _<_}
 use mathlib.Core.Bool.{Bool, true, false, cond}
 use mathlib.Core.List.{List, [], _∷_, _++_}
 use native.Mathlib.Nat.{lt-of-le-of-lt, mod-lt}
 use native.Mathlib.Omega.{arith}
 use lib.Bits.{bitAnd, bitXor, xor-lt, or-lt, and-le-l}
-use lib.Dec.{eqb}
-use lib.ListN.{getD, set, length}
-use lib.Pow.{pow-pos, shr-lt, shr-le}
-use borrow.Author.Tests.{lt-ltb}
+use lib.Dec.{eqb, leb}
+use lib.ListN.{getD, set, replicate}
+use lib.Pow.{pow-pos, shr-le}
 use Rattle.rows.specs.Written.{table}
-use Rattle.counts.specs.Digest.{fits}
-use Rattle.answers.proofs.Rows.{accepted-row}
-use Rattle.mt19937.specs.Published.{steps, following, newWord, newWords, seeded, joined, twisted, twist, refill, ready, temper, taken, nextAnswer, nextOf}
-use Rattle.mt19937.specs.Stretch.{outputs, keyWord, keyRow, stretched, StretchedFits}
+use Rattle.mt19937.specs.Published.{steps, generator, following, newWord, newWords, seeded, joined, twisted, twist, refill, ready, temper, taken, nextAnswer, nextOf}
+use Rattle.mt19937.specs.SeedArray.{put, seedWord, seedStep, indexWord, indexStep, arrayWords, arrayAnswer, noGenerator, arrayed}
 use Rattle.mt19937.specs.declared.Generator.{Generator}
-use Rattle.mt19937.proofs.Laws.{stretch-width}
-use Rattle.mt19937.proofs.Rows.{row-whole}
 
 -- every word of a row of the generator's
 abbrev pub Below : List ℕ → Type 0
@@ -74,14 +68,15 @@ twist-below : (i : ℕ) (ws : List ℕ) → Below ws → Below (twist i ws)
 unfolding twist
 twist-below i ws h = set-below ws i _ h (twisted-below _ _ (h _) (joined-below _ _ (h _) (h _)))
 
-twists-below : (n : ℕ) (ws : List ℕ) → Below ws → Below (steps twist n ws)
+-- steps of which each leaves the words below
+steps-below : (f : ℕ → List ℕ → List ℕ) → ((k : ℕ) (ws : List ℕ) → Below ws → Below (f k ws)) → (n : ℕ) (ws : List ℕ) → Below ws → Below (steps f n ws)
 unfolding steps
-twists-below zero ws h = h
-twists-below (suc n) ws h = twist-below n (steps twist n ws) (twists-below n ws h)
+steps-below f one zero ws h = h
+steps-below f one (suc n) ws h = one n (steps f n ws) (steps-below f one n ws h)
 
 refill-below : (ws : List ℕ) → Below ws → Below (refill ws)
 unfolding refill
-refill-below ws h = twists-below 624 ws h
+refill-below ws h = steps-below twist twist-below 624 ws h
 
 ready-below : (g : Generator) → Below (g .words) → Below (ready g .words)
 unfolding ready
@@ -101,8 +96,57 @@ temper-below y h = right 18 _ (left 15 0xEFC6_0000 _ (left 7 0x9D2C_5680 _ (righ
     left : (k m x : ℕ) → x < 2 ^ 32 → bitXor x (bitAnd (x * 2 ^ k % 2 ^ 32) m) < 2 ^ 32
     left k m x b = xor-lt 32 x (bitAnd (x * 2 ^ k % 2 ^ 32) m) b (mask-below (x * 2 ^ k % 2 ^ 32) m (mod-lt (x * 2 ^ k) (pow-pos 32)))
 
+-- a generator new from a seed, or from an array of seed words of any size
+filled-below : (seed : ℕ) → seed < 2 ^ 32 → Below (newWords seed 624)
+unfolding newWords
+filled-below seed h = table-below (newWord seed) 624 (λ i. new-below seed i h)
+
+pub seeded-below : (seed : ℕ) → seed < 2 ^ 32 → Below (seeded seed .words)
+unfolding seeded
+seeded-below seed h = filled-below seed h
+
+put-below : (i word : ℕ) (ws : List ℕ) → Below ws → word < 2 ^ 32 → Below (put i word ws)
+unfolding put
+put-below i word ws h b = go (leb 624 (i + 1))
+  where
+    one : Below (set ws i word)
+    one = set-below ws i word h b
+
+    go : (wraps : Bool) → Below (cond wraps (set (set ws i word) 0 (getD (set ws i word) 623 0)) (set ws i word))
+    go true = set-below (set ws i word) 0 _ one (one 623)
+    go false = one
+
+seed-step-below : (seed : List ℕ) (k : ℕ) (ws : List ℕ) → Below ws → Below (seedStep seed k ws)
+unfolding seedStep seedWord
+seed-step-below seed k ws h = put-below _ _ ws h (mod-lt _ (pow-pos 32))
+
+index-step-below : (k : ℕ) (ws : List ℕ) → Below ws → Below (indexStep k ws)
+unfolding indexStep indexWord
+index-step-below k ws h = put-below _ _ ws h (mod-lt _ (pow-pos 32))
+
+array-below : (seed : List ℕ) → Below (arrayWords seed)
+unfolding arrayWords
+array-below seed =
+    let filled = newWords 19650218 624 in
+    let first = steps (seedStep seed) 624 filled in
+    let b = steps-below (seedStep seed) (seed-step-below seed) 624 filled (filled-below 19650218 (omega arith)) in
+    set-below (steps indexStep 623 first) 0 0x8000_0000 (steps-below indexStep index-step-below 623 first b) (omega arith)
+
+zeros-below : (n : ℕ) → Below (replicate n 0)
+zeros-below zero i = pow-pos 32
+zeros-below (suc n) zero = pow-pos 32
+zeros-below (suc n) (suc i) = zeros-below n i
+
+pub arrayed-below : (seed : List ℕ) → Below (arrayed seed .words)
+unfolding arrayed noGenerator
+arrayed-below seed = go (eqb (arrayAnswer seed) 0)
+  where
+    go : (accepted : Bool) → Below (cond accepted (generator (arrayWords seed) 624) noGenerator .words)
+    go true = array-below seed
+    go false = zeros-below 624
+
 -- an output, and the state after it
-next-below : (g : Generator) → Below (g .words) → (nextOf g .word < 2 ^ 32) × Below (nextOf g .state .words)
+pub next-below : (g : Generator) → Below (g .words) → (nextOf g .word < 2 ^ 32) × Below (nextOf g .state .words)
 unfolding nextOf taken
 next-below g h = go (eqb (nextAnswer g) 0)
   where
@@ -111,22 +155,3 @@ next-below g h = go (eqb (nextAnswer g) 0)
         (n .word < 2 ^ 32) × Below (n .state .words)
     go true = (temper-below _ (ready-below g h _), ready-below g h)
     go false = (pow-pos 32, h)
-
-key-word-below : (w output : ℕ) → w ≤ 32 → output < 2 ^ 32 → keyWord w output < 2 ^ w
-unfolding keyWord
-key-word-below w output h b =
-    let whole : 32 ≡ w + (32 - w) = omega arith in
-    shr-lt w (32 - w) (subst (λ (k : ℕ). output < 2 ^ k) whole b)
-
-row-below : (w n : ℕ) (g : Generator) → w ≤ 32 → Below (g .words) → fits w (keyRow w g n) ≡ true
-unfolding keyRow outputs fits
-row-below w zero g h b = refl
-row-below w (suc n) g h b =
-    let next = next-below g b in
-    rw (lt-ltb (keyWord w (nextOf g .word)) (2 ^ w) (key-word-below w _ h (next .0))) (row-below w n (nextOf g .state) h (next .1))
-
-pub stretched-fits : StretchedFits
-unfolding StretchedFits stretched seeded newWords
-stretched-fits w seed row h e =
-    ap (fits w) (accepted-row _ _ row e ∙ sym (row-whole w (seeded seed) row))
-    ∙ row-below w (length row) (seeded seed) (stretch-width w (length row) e .1) (table-below (newWord seed) 624 (λ i. new-below seed i h))

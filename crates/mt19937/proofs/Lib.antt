@@ -1,4 +1,5 @@
--- Laws that several proofs cite.
+-- Laws that several proofs cite, and the theorem about one word.
 pub mod Laws
-pub mod Rows
 pub mod Below
+pub mod SeedArray
+pub mod OneWord

@@ -1,3 +1,3 @@
 -- The definitions that the contracts cite.
 pub mod Published
-pub mod Stretch
+pub mod SeedArray

@@ -1,12 +1,11 @@
-// MT19937 of Matsumoto and Nishimura, in its 2002 initialisation, and the stretch of a seed into key words.
+// MT19937 of Matsumoto and Nishimura, in its 2002 initialisations by a seed and by an array of seed words.
 ghost use mathlib.Core.Path.{_≡_};
 ghost use mathlib.Core.List.{List};
 ghost use Prim.Native.Nat.{ℕ, _+_, _-_, _%_, _≤_, _<_};
-ghost use lib.ListN.{length};
 ghost use Rattle.mt19937.specs.Published.{steps, generator, following, newWords, seeded, joined, twisted, twist, refill, ready, temper, taken, nextOf};
-ghost use Rattle.mt19937.specs.Stretch.{stretchAnswer, stretched};
+ghost use Rattle.mt19937.specs.SeedArray.{made};
 
-mod keys;
+mod array;
 
 // The words of the state, and how many of them are used up. Any state with at most 624 used up is fit.
 pub struct Generator {
@@ -18,6 +17,12 @@ pub struct Generator {
 pub struct Next {
     pub answer: u32,
     pub word: u32,
+    pub state: Generator,
+}
+
+// A generator with the answer of its making. A refusal has the all-zero generator.
+pub struct Made {
+    pub answer: u32,
     pub state: Generator,
 }
 
@@ -50,6 +55,15 @@ impl Generator {
 
     pub const OUTPUT_BITS: u32 = 32;
 
+    // Of a seed array: the seed of the filling before it, the multipliers of its two loops, and word 0 at last.
+    pub const ARRAY_FILL: u32 = 19650218;
+
+    pub const FIRST_FACTOR: u32 = 1664525;
+
+    pub const SECOND_FACTOR: u32 = 1566083941;
+
+    pub const ARRAY_FIRST: u32 = 0x8000_0000;
+
     // The first state word whose far word lies before it; the last state word, and its far word.
     const TURN: usize = Self::SIZE - Self::FAR;
 
@@ -64,6 +78,30 @@ impl Generator {
         Generator {
             words,
             at: Self::SIZE,
+        }
+    }
+
+    // From an array of 1 to 8 seed words. One word makes another generator than the same word as a seed.
+    pub fn from_array(seed: &[u32]) -> Made
+        ensures { λ r. ⌜ r ≡ made (now (seed .entry)) ⌝ }
+    {
+        if answers::table::bad_seed(seed.len()) {
+            let state = Generator {
+                words: [0u32; 624],
+                at: 0,
+            };
+            return Made {
+                answer: answers::SEED,
+                state,
+            };
+        }
+        let words = array::fill_by_array(seed);
+        Made {
+            answer: 0,
+            state: Generator {
+                words,
+                at: Self::SIZE,
+            },
         }
     }
 
@@ -149,10 +187,9 @@ fn refill_all(words: &mut [u32; 624])
     twist_at(words, Generator::LAST, 0, Generator::LAST_FAR);
 }
 
-// Refills a state that is used up. The position of the next word.
-fn make_ready(words: &mut [u32; 624], at: usize) -> usize
-    requires { ⌜ at ≤ 624 ⌝ }
-    ensures { λ r. ⌜ (generator (now (words .exit)) r ≡ ready (generator (now (words .entry)) at)) × (r < 624) ⌝ }
+// Refills a state that is used up. The position of the next word, where there is one.
+pub fn make_ready(words: &mut [u32; 624], at: usize) -> usize
+    ensures { λ r. ⌜ generator (now (words .exit)) r ≡ ready (generator (now (words .entry)) at) ⌝ }
 {
     if at == Generator::SIZE {
         refill_all(words);
@@ -161,7 +198,7 @@ fn make_ready(words: &mut [u32; 624], at: usize) -> usize
     at
 }
 
-fn temper_word(y: u32) -> u32
+pub fn temper_word(y: u32) -> u32
     ensures { λ r. ⌜ r ≡ temper y ⌝ }
 {
     let a = y ^ (y >> Generator::FIRST_SHIFT);
@@ -182,30 +219,4 @@ fn take_at(words: [u32; 624], at: usize) -> Next
         word,
         state: Generator { words, at: after },
     }
-}
-
-// Fills the whole row with key words, each the upper w bits of the next output of a generator that is new from the seed.
-pub fn stretch(w: u32, seed: u32, out: &mut [u32]) -> u32
-    ensures { λ r. ⌜ (r ≡ stretchAnswer w (length (now (out .entry)))) × (now (out .exit) ≡ stretched w seed (now (out .entry))) ⌝ }
-{
-    let answer = judge(w, out.len());
-    if answer != 0 {
-        return answer;
-    }
-    let mut words = fill(seed);
-    keys::key_row(w, &mut words, Generator::SIZE, out);
-    0
-}
-
-// The first test that refuses a stretch, else 0.
-fn judge(w: u32, places: usize) -> u32
-    ensures { λ r. ⌜ r ≡ stretchAnswer w places ⌝ }
-{
-    if answers::table::bad_width(w) {
-        return answers::WIDTH;
-    }
-    if answers::table::too_long(answers::MOST_STRETCH, places) {
-        return answers::LONG;
-    }
-    0
 }

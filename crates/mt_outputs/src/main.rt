@@ -1,5 +1,6 @@
-// Prints outputs of the generator, and single calls of next on given states, refused ones too.
-// tests/mt_outputs.cpp prints the same lines by std::mt19937.
+// Prints outputs of the generator, and single calls of next on given states, refused ones too: tests/mt_outputs.cpp prints the
+// same lines by std::mt19937. Then the outputs of the published seed array, and what seed arrays of every length make, refused
+// ones too: tests/mt_outputs.py prints the same by CPython's generator.
 use libc::STDOUT_FILENO;
 use mt19937::Generator;
 
@@ -71,6 +72,41 @@ fn print_positions(seed: u32) {
     print_next(filled, 625);
 }
 
+// The first 1,000 outputs of a seed array.
+fn print_array_outputs(seed: &[u32]) {
+    let made = Generator::from_array(seed);
+    let mut g = made.state;
+    for place in 0..1000 {
+        let next = g.next();
+        g = next.state;
+        io::write_all(STDOUT_FILENO, b"array");
+        print_after_space(place + 1);
+        print_after_space(next.word as u64);
+        io::write_all(STDOUT_FILENO, b"\n");
+    }
+}
+
+// One making: how many words the seed has, the answer, and of the generator the position and the words.
+fn print_made(seed: &[u32]) {
+    let made = Generator::from_array(seed);
+    let state = made.state;
+    let words = state.words;
+    io::write_all(STDOUT_FILENO, b"made");
+    print_after_space(seed.len() as u64);
+    print_after_space(made.answer as u64);
+    print_after_space(state.at as u64);
+    print_after_space(folded(words) as u64);
+    io::write_all(STDOUT_FILENO, b"\n");
+}
+
+// The first words of a row as a seed, from none to all.
+fn print_lengths(row: &[u32]) {
+    for words in 0..row.len() {
+        print_made(&row[..words]);
+    }
+    print_made(row);
+}
+
 fn main() {
     print_outputs(5489, 10000, 10000);
     print_outputs(5489, 1, 5);
@@ -79,4 +115,8 @@ fn main() {
     print_outputs(19650218, 1246, 1251);
     print_outputs(4294967295, 1, 5);
     print_positions(5489);
+    print_array_outputs(&[0x123, 0x234, 0x345, 0x456]);
+    print_lengths(&[0u32; 9]);
+    print_lengths(&[0xffff_ffffu32; 9]);
+    print_lengths(&[1, 2, 3, 4, 5, 6, 7, 8, 9]);
 }

@@ -68,6 +68,11 @@ impl Args {
             .map(|(_, value)| value.as_os_str())
     }
 
+    /// The value of an option that must be given.
+    pub fn needed_value(&self, name: &str) -> Result<&OsStr, Failure> {
+        self.value(name).ok_or_else(|| missing(name))
+    }
+
     /// The option's value as a number, if it is given.
     pub fn number(&self, name: &str) -> Result<Option<u32>, Failure> {
         self.value(name)

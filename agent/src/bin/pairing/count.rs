@@ -2,12 +2,10 @@
 
 use crate::args::Args;
 use crate::ending::{usage, Answer, Failure};
-use crate::output::{self, cannot_write};
-use crate::show::quoted;
+use crate::output::{self, NewFile};
 use crate::{histogram, picture, refused};
 use pairing_agent::{Refusal, Settings};
 use std::collections::BTreeMap;
-use std::fs::File;
 use std::io::IsTerminal;
 
 pub const HELP: &str = "\
@@ -40,17 +38,10 @@ pub fn run(args: Args) -> Result<Answer, Failure> {
         return Err(usage(too_wide(w)));
     }
     // Opened before the count, so that a file that cannot be written costs no wait.
-    let svg = match args.value("--svg") {
-        Some(file) => {
-            let name = quoted(file);
-            let opened = File::create(file);
-            Some((opened.map_err(|error| cannot_write(&name, &error))?, name))
-        }
-        None => None,
-    };
+    let svg = args.value("--svg").map(NewFile::create).transpose()?;
     let count = Count::run(w).map_err(refused)?;
-    if let Some((file, name)) = svg {
-        output::write(file, &picture::draw(&count)).map_err(|error| cannot_write(&name, &error))?;
+    if let Some(file) = svg {
+        file.write(&picture::draw(&count))?;
     }
     Ok(Answer::accepted(
         count.summary() + "\n" + &histogram::draw(&count.pairs_at),

@@ -2,7 +2,7 @@
 
 use crate::ending::{access, content, Failure};
 use crate::number::number;
-use crate::show::quoted;
+use crate::show::named;
 use crate::stdio;
 use std::ffi::OsStr;
 use std::fs::File;
@@ -62,15 +62,27 @@ pub fn row(
     word: fn(&str) -> Result<u32, String>,
 ) -> Result<Vec<u32>, Failure> {
     let mut row = Vec::new();
-    for (line, place) in text(file)?.lines().zip(1..) {
+    lines(file, |line| {
         for text in words(line, apart) {
-            row.push(word(text).map_err(|why| {
-                let name = name(file);
-                content(format!("{name}, line {place}: {why}"))
-            })?);
+            row.push(word(text)?);
         }
-    }
+        Ok(())
+    })?;
     Ok(row)
+}
+
+/// Hands on the lines of the file; what is wrong with one is told with its place.
+pub fn lines(
+    file: &OsStr,
+    mut take: impl FnMut(&str) -> Result<(), String>,
+) -> Result<(), Failure> {
+    for (line, place) in text(file)?.lines().zip(1..) {
+        take(line).map_err(|why| {
+            let name = name(file);
+            content(format!("{name}, line {place}: {why}"))
+        })?;
+    }
+    Ok(())
 }
 
 /// The words of a text, between letters that set them apart.
@@ -80,9 +92,5 @@ pub fn words(text: &str, apart: fn(char) -> bool) -> impl Iterator<Item = &str> 
 
 /// How messages call the file.
 pub fn name(file: &OsStr) -> String {
-    if file == "-" {
-        "standard input".into()
-    } else {
-        quoted(file)
-    }
+    named(file, "standard input")
 }

@@ -2,8 +2,8 @@
 
 use crate::args::{missing, Args};
 use crate::ending::{usage, Answer, Failure};
-use crate::input;
-use crate::seed::Seed;
+use crate::seed::{Seed, Source};
+use crate::{input, refused};
 use pairing_agent::Refusal;
 use std::ffi::OsStr;
 
@@ -11,10 +11,10 @@ use std::ffi::OsStr;
 macro_rules! key_help {
     ($longer:literal) => {
         concat!(
-            "  --seed S     stretch the key from this seed, as long as the message needs it;
-               @FILE takes the seed from a file, and @- from standard input:
-               unlike an argument, those show in no list of processes
-  --key FILE   take the key from a file of numbers, separated by white space;
+            $crate::seed::seed_help!(
+                "stretch the key from this seed, as long as the message needs it:"
+            ),
+            "  --key FILE   take the key from a file of numbers, separated by white space;
                it has ",
             $longer,
             " more than the message; - is standard input
@@ -57,7 +57,7 @@ impl Sources<'_> {
     }
 
     /// The answer of the call under the key.
-    pub fn answer(&self, call: &impl Keyed) -> Result<Answer, Failure> {
+    pub fn answer(self, call: &impl Keyed) -> Result<Answer, Failure> {
         let key = self.key.read(call)?;
         let text = call.text(&key);
         let text = text.map_err(|refusal| call.refused(refusal, &key))?;
@@ -66,13 +66,13 @@ impl Sources<'_> {
 }
 
 enum Key<'a> {
-    Seed(Seed<'a>),
+    Seed(Source<'a>),
     File(&'a OsStr),
 }
 
 impl Key<'_> {
     fn given(args: &Args) -> Result<Key<'_>, Failure> {
-        match (Seed::given(args)?, args.value("--key")) {
+        match (Source::given(args)?, args.value("--key")) {
             (Some(seed), None) => Ok(Key::Seed(seed)),
             (None, Some(file)) => Ok(Key::File(file)),
             (None, None) => Err(missing("--seed or --key")),
@@ -82,14 +82,14 @@ impl Key<'_> {
 
     fn is_standard_input(&self) -> bool {
         match self {
-            Key::Seed(Seed::File(file)) | Key::File(file) => *file == "-",
-            Key::Seed(Seed::Number(_)) => false,
+            Key::Seed(Source::File(file)) | Key::File(file) => *file == "-",
+            Key::Seed(Source::Argument(_)) => false,
         }
     }
 
-    fn read(&self, call: &impl Keyed) -> Result<Vec<u32>, Failure> {
+    fn read(self, call: &impl Keyed) -> Result<Vec<u32>, Failure> {
         match self {
-            Key::Seed(seed) => stretched(call, seed.read()?),
+            Key::Seed(seed) => stretched(call, &seed.read()?),
             Key::File(file) => input::numbers(file),
         }
     }
@@ -99,14 +99,21 @@ impl Key<'_> {
 ///
 /// A key has a word at least, so a first call under an empty one is refused: with a test that comes
 /// before Key, as it would be under any key, or else with Key. Then settings and message are fit,
-/// and the key's length is known.
-fn stretched(call: &impl Keyed, seed: u32) -> Result<Vec<u32>, Failure> {
-    match call.text(&[]) {
-        Ok(_) | Err(Refusal::Key) => {}
-        Err(refusal) => return Err(call.refused(refusal, &[])),
-    }
-    let mut key = vec![0; call.key_words()];
-    pairing_agent::stretch(call.width(), seed, &mut key)
+/// and the key's length is known. The seed is tested by a stretch of no words; of both refusals the
+/// one whose test comes first is told.
+fn stretched(call: &impl Keyed, seed: &Seed) -> Result<Vec<u32>, Failure> {
+    let width = call.width();
+    let found = [call.text(&[]).err(), seed.stretch(width, &mut []).err()];
+    let first = Refusal::ALL
+        .into_iter()
+        .take_while(|refusal| *refusal != Refusal::Key)
+        .find(|refusal| found.contains(&Some(*refusal)));
+    let mut key = match first {
+        Some(Refusal::Seed) => return Err(refused::seed(seed)),
+        Some(refusal) => return Err(call.refused(refusal, &[])),
+        None => vec![0; call.key_words()],
+    };
+    seed.stretch(width, &mut key)
         .map_err(|refusal| call.refused(refusal, &[]))?;
     Ok(key)
 }

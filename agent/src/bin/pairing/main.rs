@@ -1,7 +1,7 @@
 //! The command line of the pairing toolkit.
 //!
-//! Every digest, code, key and match is the proved library's. Settings and lengths go to it as they
-//! were given, and its answer decides.
+//! Every digest, code, key, load and match is the proved library's. Settings and lengths go to it
+//! as they were given, and its answer decides.
 
 #![deny(unsafe_code)]
 
@@ -15,6 +15,7 @@ mod explain;
 mod histogram;
 mod input;
 mod keyed;
+mod load;
 mod matching;
 mod message;
 mod number;
@@ -44,6 +45,7 @@ Usage: pairing COMMAND ...
   code           the code of a row of words: digits to be read aloud
   crew           the digests of a row of words under the keys of up to 16 peers
   stretch        key words from a seed
+  load           a key row and a message row from a seed, for a test bench
   match          whether two digests agree
   count          the largest count of keys under which two messages agree
   explain        what an answer's number means, and what to do
@@ -71,7 +73,7 @@ struct Command {
     run: fn(Args) -> Result<Answer, Failure>,
 }
 
-static COMMANDS: [Command; 8] = [
+static COMMANDS: [Command; 9] = [
     Command {
         name: "digest",
         help: digest::BYTES_HELP,
@@ -101,6 +103,12 @@ static COMMANDS: [Command; 8] = [
         help: stretch::HELP,
         options: &["--width", "--seed"],
         run: stretch::run,
+    },
+    Command {
+        name: "load",
+        help: load::HELP,
+        options: load::OPTIONS,
+        run: load::run,
     },
     Command {
         name: "match",

@@ -1,9 +1,13 @@
 //! What is written: answers, files and messages.
 
 use crate::ending::{access, Failure};
+use crate::show::{named, quoted};
 use crate::stdio;
+use std::ffi::OsStr;
 use std::fs::File;
 use std::io::{self, Write};
+
+const STANDARD_OUTPUT: &str = "standard output";
 
 /// Writes the text to standard output. No text is written to any output, even a closed one.
 pub fn print(text: &str) -> Result<(), Failure> {
@@ -12,17 +16,40 @@ pub fn print(text: &str) -> Result<(), Failure> {
     }
     stdio::output()
         .and_then(|output| write(output, text))
-        .map_err(|error| cannot_write("standard output", &error))
+        .map_err(|error| cannot_write(STANDARD_OUTPUT, &error))
+}
+
+/// A file that is opened to be written anew.
+pub struct NewFile {
+    file: File,
+    name: String,
+}
+
+impl NewFile {
+    pub fn create(file: &OsStr) -> Result<NewFile, Failure> {
+        let name = quoted(file);
+        let file = File::create(file).map_err(|error| cannot_write(&name, &error))?;
+        Ok(NewFile { file, name })
+    }
+
+    pub fn write(self, text: &str) -> Result<(), Failure> {
+        write(self.file, text).map_err(|error| cannot_write(&self.name, &error))
+    }
 }
 
 /// Writes the text into the file, to its end.
-pub fn write(mut file: File, text: &str) -> io::Result<()> {
+fn write(mut file: File, text: &str) -> io::Result<()> {
     file.write_all(text.as_bytes())?;
     stdio::close(file)
 }
 
-pub fn cannot_write(name: &str, error: &io::Error) -> Failure {
+fn cannot_write(name: &str, error: &io::Error) -> Failure {
     access(format!("cannot write {name}: {error}"))
+}
+
+/// How messages call the file; `-` is standard output.
+pub fn name(file: &OsStr) -> String {
+    named(file, STANDARD_OUTPUT)
 }
 
 /// Writes the text to standard error. Where that takes none, the exit status still tells.

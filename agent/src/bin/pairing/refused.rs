@@ -5,9 +5,10 @@
 use crate::ending::Failure;
 use crate::input::MOST_BYTES;
 use crate::message::Message;
+use crate::seed::Seed;
 use crate::show::{counted, thousands};
-use pairing_agent::{Refusal, Settings};
-use pairing_agent::{MOST_DIGEST_WORDS, MOST_KEY_WORDS, MOST_MESSAGE_WORDS, MOST_PEERS};
+use pairing_agent::{Refusal, Settings, MOST_PEERS, MOST_SEED_WORDS};
+use pairing_agent::{MOST_DIGEST_WORDS, MOST_KEY_WORDS, MOST_MESSAGE_WORDS};
 
 const WIDTHS: &str = "1 to 32";
 const WIDTHS_FOR_BYTES: &str = "8, 16 or 32";
@@ -62,14 +63,39 @@ pub fn code(refusal: Refusal, width: u32, digits: u32, message: &[u32], key: &[u
     Failure::Refused(refusal, figures)
 }
 
-pub fn stretch(refusal: Refusal, given: u32, words: u32) -> Failure {
+pub fn stretch(refusal: Refusal, width: u32, seed: &Seed, words: u32) -> Failure {
+    let long = at_most("", words as usize, "words", MOST_KEY_WORDS);
+    from_seed(refusal, width, seed, long)
+}
+
+pub fn load(
+    refusal: Refusal,
+    width: u32,
+    seed: &Seed,
+    key_words: u32,
+    message_words: u32,
+) -> Failure {
+    let long = match key_words as usize {
+        words if words > MOST_KEY_WORDS => at_most("", words, "key words", MOST_KEY_WORDS),
+        _ => most_words("", message_words as usize),
+    };
+    from_seed(refusal, width, seed, long)
+}
+
+/// A call that fills rows from a seed, with its figures if a row is too long.
+fn from_seed(refusal: Refusal, given: u32, from: &Seed, long: String) -> Failure {
     match refusal {
-        Refusal::Long => {
-            let figures = at_most("", words as usize, "words", MOST_KEY_WORDS);
-            Failure::Refused(refusal, Some(figures))
-        }
+        Refusal::Seed => seed(from),
+        Refusal::Long => Failure::Refused(refusal, Some(long)),
         _ => width(refusal, given),
     }
+}
+
+/// A call in which the seed array is wrong.
+pub fn seed(given: &Seed) -> Failure {
+    let words = counted(given.words(), "seed word");
+    let figures = format!("{words}; 1 to {MOST_SEED_WORDS}");
+    Failure::Refused(Refusal::Seed, Some(figures))
 }
 
 /// A call in which only the width can be wrong.

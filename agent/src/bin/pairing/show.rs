@@ -18,6 +18,15 @@ pub fn quoted(file: &OsStr) -> String {
     format!("'{}'", without_controls(&file.to_string_lossy()))
 }
 
+/// The file's name in quotes, or that of the standard stream which `-` is.
+pub fn named(file: &OsStr, stream: &str) -> String {
+    if file == "-" {
+        stream.into()
+    } else {
+        quoted(file)
+    }
+}
+
 fn without_controls(text: &str) -> String {
     text.replace(|letter: char| letter.is_control(), "?")
 }

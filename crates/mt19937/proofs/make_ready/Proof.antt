@@ -1,7 +1,6 @@
 -- `make_ready` meets its contract, by whether the position is 624.
-use native.Mathlib.Omega.{arith}
 use borrow.Author.Needs.{needs}
-use Rattle.mt19937.proofs.Laws.{ready-used, ready-within}
+use Rattle.mt19937.proofs.Laws.{ready-used, ready-other}
 use Rattle.mt19937.proofs.make_ready.Statement.{statement}
 use Rattle.mt19937.proofs.make_ready.Tie as tie
 
@@ -9,10 +8,10 @@ refill-all-requires : tie.Need-refill-all-requires
 refill-all-requires c κs = search needs
 
 returns : tie.Need-returns
-returns c = (rw (c .refill-all .ensures) (ready-used _ _ (c .before .before .if1 .taken)), omega arith)
+returns c = rw (c .refill-all .ensures) (ready-used _ _ (c .before .before .if1 .taken))
 
 returns-2 : tie.Need-returns-2
-returns-2 c = (ready-within _ _ (omega arith), omega arith)
+returns-2 c = ready-other _ _ (c .if1 .left)
 
 pub make-ready-spec : {M : Type 1} → statement M
 make-ready-spec = tie.close (tie.spec refill-all-requires returns returns-2)

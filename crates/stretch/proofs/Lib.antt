@@ -1,0 +1,4 @@
+-- Laws that several proofs cite, and the theorems.
+pub mod Rows
+pub mod Loads
+pub mod Fits

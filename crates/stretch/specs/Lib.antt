@@ -1,0 +1,3 @@
+-- The definitions that the contracts cite, and the claims about them.
+pub mod Stretch
+pub mod Load
