@@ -13,7 +13,6 @@ use Rattle.answers.specs.Answers.{firstOf}
 use Rattle.answers.specs.Table.{badSeed}
 use Rattle.mt19937.specs.Published.{generator}
 use Rattle.mt19937.specs.SeedArray.{onward, turned, arrayWords, arrayAnswer, noGenerator, arrayed, made}
-use Rattle.mt19937.specs.declared.Made.{Made}
 
 -- the index i before turn k, which lies between its ends
 pub record Index (start end k i : ℕ) : Type 0 where

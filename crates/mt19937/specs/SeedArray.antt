@@ -42,6 +42,7 @@ put i word ws = cond (leb 624 (i + 1)) (set (set ws i word) 0 (getD (set ws i wo
 unfoldable pub seedWord : List ℕ → ℕ → ℕ → List ℕ → ℕ
 seedWord seed i j ws = (mixed 1664525 ws i + getD seed j 0 + j) % 2 ^ 32
 
+-- 02, "Seven", the first loop, turn k
 unfoldable pub seedStep : List ℕ → ℕ → List ℕ → List ℕ
 seedStep seed k ws = put (placeAt k) (seedWord seed (placeAt k) (seedAt seed k) ws) ws
 
@@ -49,6 +50,7 @@ seedStep seed k ws = put (placeAt k) (seedWord seed (placeAt k) (seedAt seed k) 
 unfoldable pub indexWord : ℕ → List ℕ → ℕ
 indexWord i ws = (mixed 1566083941 ws i + 2 ^ 32 - i) % 2 ^ 32
 
+-- 02, "Seven", the second loop, turn k: i goes on from the 624 turns before
 unfoldable pub indexStep : ℕ → List ℕ → List ℕ
 indexStep k ws = put (placeAt (624 + k)) (indexWord (placeAt (624 + k)) ws) ws
 
@@ -68,9 +70,10 @@ noGenerator = generator (replicate 624 0) 0
 unfoldable pub arrayed : List ℕ → Generator
 arrayed seed = cond (eqb (arrayAnswer seed) 0) (generator (arrayWords seed) 624) noGenerator
 
+-- 02, "Seven": the same with the answer
 unfoldable pub made : List ℕ → Made
 made seed = record { answer = arrayAnswer seed; state = arrayed seed }
 
--- 02, "Seven": a one-word array is not the plain seed, whatever the word. Of 2^31 this is left open: there the first state words agree
+-- 02, "Seven": a one-word array is not the plain seed. Said of every word but 2^31, with which both first state words agree
 unfoldable pub OneWordIsNoSeed : Type 0
 OneWordIsNoSeed = (seed : ℕ) → (seed ≡ 0x8000_0000 → ⊥) → arrayed (seed ∷ []) ≡ seeded seed → ⊥

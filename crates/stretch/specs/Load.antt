@@ -25,24 +25,27 @@ loadArrayAnswer w seedWords keyWords messageWords =
 unfoldable pub loadRow : ℕ → Generator → List ℕ → List ℕ → List ℕ
 loadRow w g key message = keyRow w g (length key + length message)
 
--- 02, "Seven": its first words are the whole key row, those that follow the whole message row
+-- 02, "Seven": its first words fill the whole key row
 unfoldable pub keyAfter : ℕ → ℕ → Generator → List ℕ → List ℕ → List ℕ
 keyAfter answer w g key message = afterwards answer (take (length key) (loadRow w g key message)) key
 
+-- 02, "Seven": those that follow fill the whole message row
 unfoldable pub messageAfter : ℕ → ℕ → Generator → List ℕ → List ℕ → List ℕ
 messageAfter answer w g key message = afterwards answer (drop (length key) (loadRow w g key message)) message
 
--- 02, "Seven": the load from a seed
+-- 02, "Seven": the load from a seed, its key row
 unfoldable pub loadKey : ℕ → ℕ → List ℕ → List ℕ → List ℕ
 loadKey w seed key message = keyAfter (loadAnswer w (length key) (length message)) w (seeded seed) key message
 
+-- 02, "Seven": the load from a seed, its message row
 unfoldable pub loadMessage : ℕ → ℕ → List ℕ → List ℕ → List ℕ
 loadMessage w seed key message = messageAfter (loadAnswer w (length key) (length message)) w (seeded seed) key message
 
--- 02, "Seven": the load from a seed array
+-- 02, "Seven": the load from a seed array, its key row
 unfoldable pub loadArrayKey : ℕ → List ℕ → List ℕ → List ℕ → List ℕ
 loadArrayKey w seed key message = keyAfter (loadArrayAnswer w (length seed) (length key) (length message)) w (arrayed seed) key message
 
+-- 02, "Seven": the load from a seed array, its message row
 unfoldable pub loadArrayMessage : ℕ → List ℕ → List ℕ → List ℕ → List ℕ
 loadArrayMessage w seed key message =
     messageAfter (loadArrayAnswer w (length seed) (length key) (length message)) w (arrayed seed) key message
@@ -54,6 +57,7 @@ LoadGoesOn =
     → (loadKey w seed key message ≡ stretched w seed key)
     × (loadMessage w seed key message ≡ keyRow w (after (length key) (seeded seed)) (length message))
 
+-- 02, "Seven": the same of a seed array
 unfoldable pub LoadArrayGoesOn : Type 0
 LoadArrayGoesOn =
     (w : ℕ) (seed key message : List ℕ) → loadArrayAnswer w (length seed) (length key) (length message) ≡ 0
@@ -66,6 +70,7 @@ LoadFits =
     (w seed : ℕ) (key message : List ℕ) → seed < 2 ^ 32 → loadAnswer w (length key) (length message) ≡ 0
     → (fits w (loadKey w seed key message) ≡ true) × (fits w (loadMessage w seed key message) ≡ true)
 
+-- 02, "Seven": the same of a seed array
 unfoldable pub LoadArrayFits : Type 0
 LoadArrayFits =
     (w : ℕ) (seed key message : List ℕ) → loadArrayAnswer w (length seed) (length key) (length message) ≡ 0

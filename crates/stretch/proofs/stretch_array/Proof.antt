@@ -1,5 +1,5 @@
 -- `stretch_array` meets its contract: a refusal writes nothing, and an accepted call writes the row of the generator that the array makes.
-use mathlib.Core.Path.{sym, ap, subst, _∙_}
+use mathlib.Core.Path.{sym, _∙_}
 use borrow.Author.Needs.{needs}
 use Rattle.answers.proofs.Rows.{refused, accepted}
 use Rattle.stretch.specs.Stretch.{stretchedArray}

@@ -1,6 +1,6 @@
 -- `mt19937::array::add_seed` meets its contract. Before turn k the first k steps are made, and both indices are those of turn k.
-use Prim.Native.Nat.{_+_, _-_, _≤_, _<_}
-use mathlib.Core.Path.{_≡_, refl, sym, ap, _∙_}
+use Prim.Native.Nat.{_-_, _≤_}
+use mathlib.Core.Path.{_≡_}
 use native.Mathlib.Omega.{arith}
 use lib.ListN.{length}
 use Rattle.mt19937.specs.Published.{steps}

@@ -1,5 +1,4 @@
 -- `mt19937::array::put_word` meets its contract, by whether the index wraps.
-use native.Mathlib.Omega.{arith}
 use borrow.Author.Tests.{le-leb, lt-leb}
 use Rattle.mt19937.specs.SeedArray.{put}
 use borrow.Author.Needs.{needs}

@@ -1,5 +1,4 @@
 -- `mt19937::array::step_on` meets its contract, by whether the end is reached.
-use native.Mathlib.Omega.{arith}
 use borrow.Author.Tests.{le-leb, lt-leb}
 use Rattle.mt19937.specs.SeedArray.{onward}
 use borrow.Author.Needs.{needs}

@@ -1,6 +1,6 @@
 -- `mt19937::array::subtract_index` meets its contract. Before turn k the first k steps are made, and the index is that of turn k.
-use Prim.Native.Nat.{_+_, _-_, _≤_, _<_}
-use mathlib.Core.Path.{_≡_, refl, sym, ap, _∙_}
+use Prim.Native.Nat.{_+_, _-_, _≤_}
+use mathlib.Core.Path.{_≡_}
 use native.Mathlib.Omega.{arith}
 use Rattle.mt19937.specs.Published.{steps}
 use Rattle.mt19937.specs.SeedArray.{indexStep}
