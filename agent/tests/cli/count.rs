@@ -22,6 +22,17 @@ fn counts(w: u32) -> Vec<((u32, u32), u32)> {
     counts
 }
 
+/// The line on the pair whose count is proved, with the number that brute force finds; none where
+/// there is no such pair.
+fn tight_line(w: u32, counts: &[((u32, u32), u32)]) -> String {
+    let h = w.div_ceil(2);
+    let second = 1 + (1 << h);
+    match counts.iter().find(|(pair, _)| *pair == (1, second)) {
+        Some((_, count)) => format!("proved of 1 and {second}: 2^{} - 2^{h} = {count}\n", w + 1),
+        None => String::new(),
+    }
+}
+
 /// How many pairs have each count, as the histogram shows them.
 fn drawn(histogram: &str) -> BTreeMap<u32, u32> {
     let pairs_at = |line: &str| {
@@ -48,12 +59,13 @@ fn counts_are_those_of_brute_force() {
              largest count of keys under which a pair agrees: {largest}\n\
              first pair that reaches it: {a} and {b}\n\
              pairs that reach it: {}\n\
-             bound: {}\n\n",
+             bound: {}\n{}\n",
             counts.len(),
             if w == 1 { "" } else { "s" },
             1 << (2 * w),
             reaching.len(),
-            2 << w
+            2 << w,
+            tight_line(w, &counts)
         );
         let out = accepted(&["count", "--width", &w.to_string()], b"");
         assert!(out.starts_with(&due), "{out}");
@@ -66,6 +78,18 @@ fn counts_are_those_of_brute_force() {
     }
 }
 
+/// The largest counts of widths 1 to 8, found elsewhere; from width 2 on the proved pair has them.
+#[test]
+fn no_pair_has_more_than_the_proved_one() {
+    for (w, largest) in (1..).zip([2, 6, 12, 28, 56, 120, 240, 496]) {
+        let out = accepted(&["count", "--width", &w.to_string()], b"");
+        assert!(out.contains(&format!("pair agrees: {largest}\n")), "{out}");
+        let proved = out.lines().find(|line| line.starts_with("proved of 1"));
+        let same = proved.map(|line| line.ends_with(&format!(" = {largest}")));
+        assert_eq!(same, (w > 1).then_some(true), "{out}");
+    }
+}
+
 #[test]
 fn seven_bits_are_as_proved_and_as_drawn() {
     let svg = Scratch::new("seven-bits.svg", "");
@@ -75,7 +99,7 @@ fn seven_bits_are_as_proved_and_as_drawn() {
     let proved: String = lines.take(5).collect();
     assert!(out.starts_with(&proved), "{out}");
     assert!(
-        out[proved.len()..].starts_with("003 reports: 240,"),
+        out[proved.len()..].starts_with("proved of 1 and 17: 2^8 - 2^4 = 240\n003 reports: 240,"),
         "{out}"
     );
     let committed = include_str!("../../../docs/seven-bits.svg");
@@ -120,6 +144,9 @@ fn pictures_of_every_small_width() {
             text.contains(&format!(">proved bound {}<", 2 << w)),
             "{text}"
         );
+        let marked = if w == 1 { 0 } else { 1 };
+        assert_eq!(text.matches("<circle ").count(), marked, "{text}");
+        assert_eq!(text.matches(", proved<").count(), marked, "{text}");
         assert!(!text.contains("NaN") && !text.contains("inf"), "{text}");
         assert!(!text.contains("003"), "{text}");
     }

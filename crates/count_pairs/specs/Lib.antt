@@ -1,3 +1,4 @@
 pub mod Agree
 pub mod Table
 pub mod Search
+pub mod Printed

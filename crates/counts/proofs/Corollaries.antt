@@ -95,13 +95,15 @@ zero-differences w b (suc n) first second ks =
         ap₂ eqb (mod-mod y (2 ^ b)) (ap (λ (n : ℕ). n % 2 ^ b) (add-zero (x % 2 ^ b)) ∙ mod-mod x (2 ^ b))
         ∙ eqb-same (y % 2 ^ b) (x % 2 ^ b) (x % 2 ^ b) (y % 2 ^ b) sym sym
 
+-- so a collision is counted either way
+pub collide-differ : (w b n t : ℕ) (first second : List ℕ) → keysThatCollide w b n t first second ≡ keysThatDiffer w b n t first second (replicate n 0)
+unfolding keysThatCollide keysThatDiffer count ZeroDifferences
+collide-differ w b n t first second = rows-cong w (t + n) (λ ks. ap asNumber (sym (zero-differences w b n first second ks)))
+
 pub collisions : Collisions
-unfolding Collisions keysThatCollide CollisionBound CollisionBoundAt keysThatDiffer count ZeroDifferences
+unfolding Collisions CollisionBound CollisionBoundAt
 collisions w b n t first second le m m′ ne =
-    le-trans
-    (le-of-eq
-    (rows-cong w (t + n) (λ ks. ap asNumber (sym (zero-differences w b n first second ks)))))
-    (collision-bound w b n t le first second (replicate n 0) m m′ ne (length-replicate n 0))
+    le-trans (le-of-eq (collide-differ w b n t first second)) (collision-bound w b n t le first second (replicate n 0) m m′ ne (length-replicate n 0))
 
 -- a count times 2^(n·b) against the number of all keys
 all-keys : (w b n t c : ℕ) → b ≤ w → 2 ^ (w * t + c + n * (w - b)) * 2 ^ (n * b) ≡ 2 ^ c * 2 ^ (w * (t + n))

@@ -12,3 +12,5 @@ pub mod Corollaries
 pub mod Laws
 pub mod Fits
 pub mod CommonKey
+pub mod PairSums
+pub mod TightPair

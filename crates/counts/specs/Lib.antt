@@ -3,3 +3,4 @@ pub mod Count
 pub mod Claims
 pub mod Corollaries
 pub mod CommonKey
+pub mod TightPair

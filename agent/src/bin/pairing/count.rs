@@ -18,8 +18,9 @@ Usage: pairing count --width W [--svg FILE]
 
 Takes every pair of different one-word messages and every key, with one digest
 word and all W bits kept. Prints the largest count, the first pair that reaches
-it, how many pairs do, the proved bound, and how many pairs have each count.
-Width 8 takes about a second, width 10 about a minute.
+it, how many pairs do, the proved bound, from width 2 on the count that is
+proved of one pair, and how many pairs have each count. Width 8 takes about a
+second, width 10 about a minute.
 ";
 
 /// The largest width that is counted.
@@ -157,6 +158,11 @@ impl Count {
         1 << (self.w + 1)
     }
 
+    /// The pair whose count is proved; a word of one bit is too narrow for it.
+    pub fn tight(&self) -> Option<TightPair> {
+        (self.w > 1).then_some(TightPair { w: self.w })
+    }
+
     /// What 003 reports at this width, in keys.
     pub fn reported(&self) -> Option<u32> {
         (self.w == REPORTED.0).then_some(REPORTED.1)
@@ -180,10 +186,40 @@ impl Count {
             reached = self.reached(),
             bound = self.bound()
         );
+        if let Some(tight) = self.tight() {
+            text += &format!(
+                "proved of 1 and {}: 2^{} - 2^{} = {}\n",
+                tight.second(),
+                tight.w + 1,
+                tight.h(),
+                tight.keys()
+            );
+        }
         if let Some(reported) = self.reported() {
             text += &format!("003 reports: {reported}, as 1.875 * 2^-7 of all keys\n");
         }
         text
+    }
+}
+
+/// The messages 1 and 1 + 2^h, h being half the width, rounded up: `PairCount` in
+/// crates/counts/specs/TightPair.antt.
+pub struct TightPair {
+    pub w: u32,
+}
+
+impl TightPair {
+    pub fn h(&self) -> u32 {
+        self.w.div_ceil(2)
+    }
+
+    pub fn second(&self) -> u32 {
+        1 + (1 << self.h())
+    }
+
+    /// The keys under which they agree, as proved.
+    pub fn keys(&self) -> u32 {
+        (1 << (self.w + 1)) - (1 << self.h())
     }
 }
 

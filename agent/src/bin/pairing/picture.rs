@@ -68,15 +68,14 @@ pub fn draw(count: &Count) -> String {
     let x = axes.x(f64::from(count.largest));
     let top_of_bar = axes.y(f64::from(count.reached()));
     svg.line((x, TOP + 14.0), (x, top_of_bar), LARGEST, "2 3");
-    let label = format!(
-        "largest count {}, of {}",
-        thousands(count.largest),
-        pairs(count.reached())
-    );
-    svg.text(x - 10.0, TOP + 34.0, "end", 15, LARGEST, &label);
-    if count.reported() == Some(count.largest) {
-        let label = "003 reports the same: 1.875 \u{b7} 2\u{207b}\u{2077}";
-        svg.text(x - 10.0, TOP + 56.0, "end", 15, LARGEST, label);
+    for (row, label) in notes(count).iter().enumerate() {
+        let y = TOP + 30.0 + 20.0 * row as f64;
+        svg.text(x - 10.0, y, "end", 15, LARGEST, label);
+    }
+    if let Some(tight) = count.tight() {
+        let keys = tight.keys();
+        let pairs = count.pairs_at[&keys];
+        svg.dot(axes.x(f64::from(keys)), axes.y(f64::from(pairs)));
     }
 
     // A digest that spreads its keys evenly over 2^w values has every pair at this count.
@@ -98,6 +97,35 @@ pub fn draw(count: &Count) -> String {
     svg.text(middle, BOTTOM + 54.0, "middle", 16, INK, &along);
     svg.text_up(26.0, (TOP + BOTTOM) / 2.0, 16, "pairs, logarithmic");
     svg.end()
+}
+
+/// The labels beside the largest count.
+fn notes(count: &Count) -> Vec<String> {
+    let mut notes = vec![format!(
+        "largest count {}, of {}",
+        thousands(count.largest),
+        pairs(count.reached())
+    )];
+    if let Some(tight) = count.tight() {
+        notes.push(format!(
+            "\u{25cf} 1 and {}: 2{} \u{2212} 2{} = {}, proved",
+            thousands(tight.second()),
+            raised(tight.w + 1),
+            raised(tight.h()),
+            thousands(tight.keys())
+        ));
+    }
+    if count.reported() == Some(count.largest) {
+        notes.push("003 reports the same: 1.875 \u{b7} 2\u{207b}\u{2077}".to_string());
+    }
+    notes
+}
+
+/// A number as an exponent.
+fn raised(number: u32) -> String {
+    let digits = "\u{2070}\u{b9}\u{b2}\u{b3}\u{2074}\u{2075}\u{2076}\u{2077}\u{2078}\u{2079}";
+    let raised = |digit: char| digits.chars().nth(digit.to_digit(10)? as usize);
+    number.to_string().chars().filter_map(raised).collect()
 }
 
 /// How many neighbouring counts a bar takes.
@@ -206,6 +234,12 @@ impl Svg {
         self.add(format_args!(
             "<rect x=\"{x:.1}\" y=\"{y:.1}\" width=\"{width:.1}\" height=\"{height:.1}\" \
              fill=\"{BAR}\"/>"
+        ));
+    }
+
+    fn dot(&mut self, x: f64, y: f64) {
+        self.add(format_args!(
+            "<circle cx=\"{x:.1}\" cy=\"{y:.1}\" r=\"6\" fill=\"{LARGEST}\"/>"
         ));
     }
 
