@@ -78,14 +78,29 @@ fn counts_are_those_of_brute_force() {
     }
 }
 
-/// The largest counts of widths 1 to 8, found elsewhere; from width 2 on the proved pair has them.
+/// The largest counts of widths 1 to 8 and the first pairs that reach them, found elsewhere; from
+/// width 2 on it is the proved pair that does.
 #[test]
 fn no_pair_has_more_than_the_proved_one() {
-    for (w, largest) in (1..).zip([2, 6, 12, 28, 56, 120, 240, 496]) {
+    let found = [
+        (2, (0, 1)),
+        (6, (1, 3)),
+        (12, (1, 5)),
+        (28, (1, 5)),
+        (56, (1, 9)),
+        (120, (1, 9)),
+        (240, (1, 17)),
+        (496, (1, 17)),
+    ];
+    for (w, (largest, (a, b))) in (1..).zip(found) {
         let out = accepted(&["count", "--width", &w.to_string()], b"");
-        assert!(out.contains(&format!("pair agrees: {largest}\n")), "{out}");
-        let proved = out.lines().find(|line| line.starts_with("proved of 1"));
-        let same = proved.map(|line| line.ends_with(&format!(" = {largest}")));
+        let counted = format!("pair agrees: {largest}\nfirst pair that reaches it: {a} and {b}\n");
+        assert!(out.contains(&counted), "{out}");
+        let proved = out.lines().find(|line| line.starts_with("proved of "));
+        let same = proved.map(|line| {
+            line.starts_with(&format!("proved of {a} and {b}: "))
+                && line.ends_with(&format!(" = {largest}"))
+        });
         assert_eq!(same, (w > 1).then_some(true), "{out}");
     }
 }
