@@ -80,6 +80,23 @@ seed_arrays() {
     python3 tests/seed_arrays.py | target/tests/seed_arrays
 }
 
+# forged: under a known key tests/forge.py finds a label with the digest of another, and under the next key they differ, by the
+# library's own digests. Counts as one test.
+forged() {
+    local seed label forged after
+    printf 'depot 7, gate B, scanner 0451' >"$logs/label"
+    for seed in 0 5489 4294967294; do
+        python3 -B tests/forge.py "$seed" "$(cat "$logs/label")" 'depot 9' >"$logs/forged"
+        label=$("$pairing" digest --seed "$seed" "$logs/label")
+        forged=$("$pairing" digest --seed "$seed" "$logs/forged")
+        after=$("$pairing" digest --seed $((seed + 1)) "$logs/forged")
+        [ "$label" = "$forged" ] || fail "the forged label has another digest under the key of seed $seed"
+        [ "$after" != "$("$pairing" digest --seed $((seed + 1)) "$logs/label")" ] || fail "one digest under the key after seed $seed"
+    done
+    echo "test forged labels have the digest that they were forged for ... ok"
+    echo "test result: ok. 1 passed; 0 failed; 0 ignored; 0 measured; 0 filtered out"
+}
+
 # The proved library, called from Rust, with the full number of random calls, from C and from C++.
 unset PAIRING_RANDOM_CALLS
 tools/lib.sh
@@ -94,5 +111,7 @@ run unused_in_cxx "$results" unused_answer c++ -std=c++17 -x c++
 run stretch "$results" target/tests/stretch
 "${cxx[@]}" tests/seed_arrays.cpp "$library" -o target/tests/seed_arrays
 run seed_arrays "$results" seed_arrays
+pairing=target/agent/release/pairing
+run forged "$results" forged
 
 echo "$passed passed, 0 failed"
