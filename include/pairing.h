@@ -15,6 +15,17 @@
  * that holds is the answer; a call makes the tests of what it is given. A refusal
  * returns its number and nothing else: every lent row holds what it held.
  *
+ * What makes a pairing safe:
+ *   1. draw the key after both labels are fixed;
+ *   2. keep it secret until then;
+ *   3. use it once;
+ *   4. every retry is another chance for two different labels to match.
+ * The counts hold for such a key alone. Who knows the key beforehand finds a second
+ * label with the digest of the first in less than a second.
+ *
+ * MT19937, which stretches a seed, is not a cryptographic generator. It need not be
+ * one, since the key is public by the time that a digest is made.
+ *
  * What the counts cover: how many keys make two different messages agree is proved
  * over all keys of t + n words drawn uniformly, n being 1 for a code; a key stretched
  * from a seed of s words is one of at most 2^(32 * s), and no count is proved for
@@ -29,9 +40,14 @@
 
 /* The version of this header and of the library that goes with it. */
 #define PAIRING_VERSION_MAJOR 0
-#define PAIRING_VERSION_MINOR 6
+#define PAIRING_VERSION_MINOR 7
 #define PAIRING_VERSION_PATCH 0
-#define PAIRING_VERSION "0.6.0"
+#define PAIRING_VERSION "0.7.0"
+
+/* The same as a number. Where pairing_version() answers another, the library that is
+ * linked is not this header's. */
+#define PAIRING_VERSION_NUMBER \
+    (PAIRING_VERSION_MAJOR * 10000u + PAIRING_VERSION_MINOR * 100u + PAIRING_VERSION_PATCH)
 
 /* Makes a compiler that can warn do so where an answer is not used: a refused call
  * has written nothing. */
@@ -107,6 +123,10 @@ enum {
 /* The most digits that a code has, at widths 30 to 32, and the most bytes. */
 #define PAIRING_MOST_CODE_DIGITS 9
 #define PAIRING_MOST_CODE_BYTES 5
+
+/* The version of the library that is linked, as PAIRING_VERSION_NUMBER writes it. */
+PAIRING_USE_ANSWER
+uint32_t pairing_version(void);
 
 /*
  * Digests the message under the key: words of w bits, the low b bits of each

@@ -667,6 +667,16 @@ static int version(void)
     return strcmp(text, PAIRING_VERSION) == 0;
 }
 
+/* The archive is the header's: 0.7.0 is 700. */
+static int version_of_the_library(void)
+{
+    char text[32];
+    uint32_t number = pairing_version();
+    snprintf(text, sizeof text, "%u.%u.%u", (unsigned)(number / 10000), (unsigned)(number / 100 % 100),
+             (unsigned)(number % 100));
+    return number == PAIRING_VERSION_NUMBER && strcmp(text, PAIRING_VERSION) == 0;
+}
+
 static const struct {
     const char *name;
     int (*passes)(void);
@@ -711,6 +721,7 @@ static const struct {
     {"null_crew", null_crew},
     {"null_seeds", null_seeds},
     {"version", version},
+    {"version_of_the_library", version_of_the_library},
 };
 
 int main(void)

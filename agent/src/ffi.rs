@@ -94,6 +94,8 @@ mod entry {
             second: *const u32,
             second_words: usize,
         ) -> u32;
+
+        pub fn pairing_version() -> u32;
     }
 }
 
@@ -111,7 +113,12 @@ type Digest<P> = unsafe extern "C" fn(
 ) -> u32;
 
 /// The number that such an entry answers.
-fn digest<P>(
+///
+/// # Safety
+///
+/// `entry` asks for nothing but the library's premises: each pointer and length is one row's, and
+/// the output overlaps no other.
+unsafe fn digest<P>(
     entry: Digest<P>,
     settings: Settings,
     message: &[P],
@@ -137,13 +144,15 @@ fn digest<P>(
 /// The number that `pairing_digest_words` answers: 0 with the digest in `out`, or a refusal's.
 #[must_use]
 pub fn digest_words(settings: Settings, message: &[u32], key: &[u32], out: &mut [u32]) -> u32 {
-    digest(entry::pairing_digest_words, settings, message, key, out)
+    // SAFETY: it is the library's entry, which asks for nothing but its premises.
+    unsafe { digest(entry::pairing_digest_words, settings, message, key, out) }
 }
 
 /// The number that `pairing_digest_bytes` answers: 0 with the digest in `out`, or a refusal's.
 #[must_use]
 pub fn digest_bytes(settings: Settings, message: &[u8], key: &[u32], out: &mut [u32]) -> u32 {
-    digest(entry::pairing_digest_bytes, settings, message, key, out)
+    // SAFETY: it is the library's entry, which asks for nothing but its premises.
+    unsafe { digest(entry::pairing_digest_bytes, settings, message, key, out) }
 }
 
 /// The number that `pairing_digest_code` answers: 0 with the code in `out`, or a refusal's.
@@ -261,4 +270,11 @@ pub fn digests_match(words: u32, first: &[u32], second: &[u32]) -> u32 {
             second.len(),
         )
     }
+}
+
+/// The number that `pairing_version` answers.
+#[must_use]
+pub fn version() -> u32 {
+    // SAFETY: it takes nothing and touches nothing.
+    unsafe { entry::pairing_version() }
 }

@@ -4,16 +4,36 @@
 //! function turns that number into a `Result`.
 //!
 //! ```
-//! use pairing_agent::{digest_words, digests_match, Settings};
+//! use pairing_agent::{Digest, Settings};
+//! use std::{fs::File, io::Read};
 //!
-//! // The key has two words more than the message, one for each digest word.
-//! let settings = Settings { width: 8, kept: 8, words: 2 };
-//! let mut digest = [0; 2];
-//! digest_words(settings, &[3, 7], &[10, 20, 100, 250], &mut digest)?;
-//! assert_eq!(digest, [0xac, 0xff]);
-//! assert!(digests_match(settings.words, &digest, &[0xac, 0xff])?);
-//! # Ok::<(), pairing_agent::Refusal>(())
+//! let settings = Settings { width: 32, kept: 32, words: 2 };
+//! let (sent, arrived) = ("depot 7, scanner 0451", "depot 7, scanner 0457");
+//! // Both labels are fixed, so the key is drawn: two words more than a label makes.
+//! let mut bytes = vec![0; 4 * settings.key_words(settings.words_of_bytes(sent.len()))];
+//! File::open("/dev/urandom")?.read_exact(&mut bytes)?;
+//! let words = bytes.chunks(4).map(|word| u32::from_le_bytes(word.try_into().unwrap()));
+//! let key: Vec<u32> = words.collect();
+//! let shown: Digest = settings.digest_bytes(sent.as_bytes(), &key)?;
+//! let typed: Digest = shown.to_string().parse()?;
+//! assert!(typed == shown);
+//! assert!(typed != settings.digest_bytes(arrived.as_bytes(), &key)?);
+//! # Ok::<(), Box<dyn std::error::Error>>(())
 //! ```
+//!
+//! # What makes a pairing safe
+//!
+//! 1. Draw the key after both labels are fixed.
+//! 2. Keep it secret until then.
+//! 3. Use it once.
+//! 4. Every retry is another chance for two different labels to match.
+//!
+//! The counts below hold for such a key alone. Who knows the key beforehand finds a second label
+//! with the digest of the first in less than a second.
+//!
+//! MT19937, which stretches a seed, is not a cryptographic generator. It need not be one, since the
+//! key is public by the time that a digest is made. But a seed of s words makes at most 2^(32·s)
+//! keys, and no count is proved for those: a key that is drawn whole has the counts.
 //!
 //! # What is proved, and of which keys
 //!
@@ -33,6 +53,7 @@
 #![deny(missing_docs)]
 
 mod code;
+mod digest;
 #[allow(unsafe_code)]
 #[doc(hidden)]
 pub mod ffi;
@@ -40,6 +61,7 @@ mod refusal;
 mod settings;
 
 pub use code::{code_bytes, code_text, MOST_CODE_BYTES, MOST_CODE_DIGITS};
+pub use digest::{Digest, DigestError};
 pub use refusal::Refusal;
 pub use settings::Settings;
 
@@ -304,6 +326,18 @@ pub fn digests_match(words: u32, first: &[u32], second: &[u32]) -> Result<bool, 
         101 => Ok(false),
         number => Err(refused(number)),
     }
+}
+
+/// The version of the library that is linked, as a number: 10,000 times the major version, 100 times
+/// the minor one and the patch. It is this crate's: the build looks, and fails on another.
+///
+/// ```
+/// // 0.7.0 or later.
+/// assert!(pairing_agent::version() >= 700);
+/// ```
+#[must_use]
+pub fn version() -> u32 {
+    ffi::version()
 }
 
 /// The answer of a call that writes a row: 0, or a refusal.

@@ -158,3 +158,16 @@ fn the_header_has_the_crates_version() {
         assert!(HEADER.contains(&line), "{name}");
     }
 }
+
+/// The linked archive's own answer: one that an older `make lib` has left answers another number.
+#[test]
+fn the_library_has_the_crates_version() {
+    let [major, minor, patch] = ["MAJOR", "MINOR", "PATCH"]
+        .map(|part| number_after(HEADER, &format!("#define PAIRING_VERSION_{part}")) as u32);
+    let due = major * 10_000 + minor * 100 + patch;
+    assert_eq!(pairing_agent::version(), due);
+    let named = format!("{major}.{minor}.{patch}");
+    assert_eq!(named, env!("CARGO_PKG_VERSION"));
+    let weights = "(PAIRING_VERSION_MAJOR * 10000u + PAIRING_VERSION_MINOR * 100u + PAIRING_VERSION_PATCH)";
+    assert_eq!(HEADER.matches(weights).count(), 1);
+}

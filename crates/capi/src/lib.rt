@@ -7,7 +7,15 @@ ghost use Rattle.code.specs.Calls.{codeAnswer, codeRow};
 ghost use Rattle.crew.specs.Calls.{crewAnswer, crewRow};
 ghost use Rattle.stretch.specs.Stretch.{stretchAnswer, stretched, stretchArrayAnswer, stretchedArray};
 ghost use Rattle.stretch.specs.Load.{loadAnswer, loadKey, loadMessage, loadArrayAnswer, loadArrayKey, loadArrayMessage};
+ghost use Rattle.capi.specs.Version.{libraryVersion};
 ghost use lib.ListN.{length};
+
+#[no_mangle]
+pub extern "C" fn pairing_version() -> u32
+    ensures { λ r. ⌜ r ≡ libraryVersion ⌝ }
+{
+    700
+}
 
 #[no_mangle]
 pub extern "C" fn pairing_digest_words(
