@@ -1,9 +1,14 @@
-.PHONY: test demo prove lib pairing bench soak test-memory figures
+.PHONY: help test demo prove lib pairing bench soak test-memory figures
 
 # Cargo on the agent's package; what it builds goes below target/.
 CARGO = CARGO_TARGET_DIR=target/agent cargo
 PACKAGE = --manifest-path agent/Cargo.toml --offline
 LIBRARY = target/staticlib/libpairing.a
+
+# this list, made of the comments above the targets
+help:
+	@awk '/^# / { line = substr($$0, 3) } /^$$/ { line = "" } \
+	    /^[a-z-]+:/ && line { sub(/:.*/, ""); printf "make %-12s %s\n", $$0, line; line = "" }' $(firstword $(MAKEFILE_LIST))
 
 # every proof, must-fail edit, program, Rust test and C test; the last line is 'N passed, 0 failed'
 test:
@@ -17,7 +22,7 @@ demo: lib
 prove:
 	rt prove
 
-# the proved library for C and Rust: target/staticlib/libpairing.a
+# the proved library for C and Rust, target/staticlib/libpairing.a; what has not changed is not proved again
 lib:
 	@tools/lib.sh
 
@@ -37,8 +42,7 @@ bench: lib
 soak: lib
 	$(CARGO) test $(PACKAGE) --release --test soak -- --ignored --nocapture
 
-# the C tests with sanitizers and under valgrind, the Rust tests under valgrind with fewer random calls and no counts over
-# all keys; fails on any error
+# the C tests with sanitizers, the C tests and most Rust tests under valgrind; fails on any error
 VALGRIND = valgrind --quiet --error-exitcode=1 --leak-check=full --errors-for-leak-kinds=definite
 C_TESTS = cc -std=c11 -Wall -Wextra -Werror -g -Iinclude tests/c_interface.c $(LIBRARY)
 test-memory: export PAIRING_RANDOM_CALLS = 20000

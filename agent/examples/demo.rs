@@ -1,6 +1,7 @@
 //! A scanner and a depot pair, through the proved library: once as it should go, once with a label
-//! altered on the way, once with a label of the wrong length. Then a crew pairs together, a seed is
-//! stretched at several widths, and at last two shares are joined into a longer seed.
+//! altered on the way, once with a label that is shorter than its key asks for. Then a crew pairs
+//! together, a seed is stretched at several widths, and at last two shares are joined into a longer
+//! seed.
 
 #![forbid(unsafe_code)]
 
@@ -80,6 +81,7 @@ fn pairing(arrived: &str) -> Vec<String> {
                 "agent             refused with {number} {refusal:?}: no network key"
             ));
             lines.push(format!("advice            {refusal}"));
+            lines.extend(own_key(LABEL, arrived).expect("a label's own key is fit"));
         }
     }
     lines
@@ -87,13 +89,35 @@ fn pairing(arrived: &str) -> Vec<String> {
 
 /// Whether the agent would issue the network key.
 fn enrol(sent: &str, arrived: &str, lines: &mut Vec<String>) -> Result<bool, Refusal> {
-    // Each end stretches a key of its own, as long as the sent label needs it.
-    let key_words = SETTINGS.key_words(SETTINGS.words_of_bytes(sent.len()));
+    // The depot expects the label that was sent, so both ends stretch a key for that one's length.
+    let key_words = needed(sent);
     let scanner = digest(sent, key_words)?;
     lines.push(format!("scanner's digest  {}", shown(&scanner)));
     let depot = digest(arrived, key_words)?;
     lines.push(format!("depot's digest    {}", shown(&depot)));
     digests_match(SETTINGS.words, &scanner, &depot)
+}
+
+/// Why the arrived label was refused, and what each label has under as many first words of one key
+/// as it needs: a stretch of fewer words is the first ones of a longer.
+fn own_key(sent: &str, arrived: &str) -> Result<Vec<String>, Refusal> {
+    let (longer, shorter) = (needed(sent), needed(arrived));
+    let digests = [digest(sent, longer)?, digest(arrived, shorter)?];
+    let paired = match digests_match(SETTINGS.words, &digests[0], &digests[1])? {
+        true => "match",
+        false => "no match",
+    };
+    let own = format!("with the first {shorter}");
+    Ok(vec![
+        format!("why               the depot's key has {longer} words, as the sent label takes;"),
+        format!("                  the one that arrived takes {shorter}"),
+        format!("{own:17} its digest is {}: {paired}", shown(&digests[1])),
+    ])
+}
+
+/// How many key words a label takes.
+fn needed(label: &str) -> usize {
+    SETTINGS.key_words(SETTINGS.words_of_bytes(label.len()))
 }
 
 /// What one end does: stretch the key, digest the label.
@@ -227,7 +251,11 @@ fn the_agent_issues_one_key() {
         ]
     );
     let advice = format!("advice            {}", Refusal::Key);
-    assert_eq!(told[2].last(), Some(&advice));
+    assert!(told[2].contains(&advice));
+    // Under its own part of the key it has a digest, and another one.
+    assert!(told[2]
+        .last()
+        .is_some_and(|line| line.ends_with("no match")));
 }
 
 #[test]

@@ -128,7 +128,10 @@ impl fmt::Display for DigestError {
     fn fmt(&self, to: &mut fmt::Formatter<'_>) -> fmt::Result {
         match self {
             DigestError::Count(count) => {
-                write!(to, "a digest has 1 to {MOST_DIGEST_WORDS} words, not {count}")
+                write!(
+                    to,
+                    "a digest has 1 to {MOST_DIGEST_WORDS} words, not {count}"
+                )
             }
             DigestError::Word(place) => {
                 write!(to, "word {place} is not eight hexadecimal digits")

@@ -168,6 +168,7 @@ fn the_library_has_the_crates_version() {
     assert_eq!(pairing_agent::version(), due);
     let named = format!("{major}.{minor}.{patch}");
     assert_eq!(named, env!("CARGO_PKG_VERSION"));
-    let weights = "(PAIRING_VERSION_MAJOR * 10000u + PAIRING_VERSION_MINOR * 100u + PAIRING_VERSION_PATCH)";
+    let weights =
+        "(PAIRING_VERSION_MAJOR * 10000u + PAIRING_VERSION_MINOR * 100u + PAIRING_VERSION_PATCH)";
     assert_eq!(HEADER.matches(weights).count(), 1);
 }
