@@ -20,16 +20,18 @@
  *   2. keep it secret until then;
  *   3. use it once;
  *   4. every retry is another chance for two different labels to match.
- * The counts hold for such a key alone. Who knows the key beforehand finds a second
- * label with the digest of the first in less than a second.
+ * The counts are over all keys, for two given labels; they say nothing of labels that
+ * were made to suit a key. Under a key that is known beforehand such a label can be
+ * searched for, which takes about half a second for a digest of one word of 32 bits.
  *
  * MT19937, which stretches a seed, is not a cryptographic generator. It need not be
- * one, since the key is public by the time that a digest is made.
+ * one: the key is public by the time that a digest is made (Nguyen and Roscoe,
+ * section 2). But a seed of s words makes at most 2^(32 * s) keys, and no count is
+ * proved for those.
  *
  * What the counts cover: how many keys make two different messages agree is proved
- * over all keys of t + n words drawn uniformly, n being 1 for a code; a key stretched
- * from a seed of s words is one of at most 2^(32 * s), and no count is proved for
- * those. Messages of words have one length there; of bytes, any lengths
+ * over all keys of t + n words drawn uniformly, n being 1 for a code.
+ * Messages of words have one length there; of bytes, any lengths
  * (pairing_digest_bytes).
  */
 #ifndef PAIRING_H

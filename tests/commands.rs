@@ -241,3 +241,25 @@ fn targets_exist() {
         assert!(makefile.contains(&format!("\n{target}:")), "{command}");
     }
 }
+
+/// `make` alone has a line for each target.
+#[test]
+fn targets_are_listed() {
+    let makefile = fs::read_to_string("Makefile").unwrap();
+    let targets = makefile.lines().next().unwrap().strip_prefix(".PHONY: ");
+    // Below another make it would name its folder.
+    let listed = Command::new("make")
+        .arg("--no-print-directory")
+        .env_remove("MAKEFLAGS")
+        .output()
+        .unwrap();
+    let listed = String::from_utf8(listed.stdout).unwrap();
+    let names = listed.lines().map(|line| line.split_whitespace().nth(1));
+    assert_eq!(
+        names.map(Option::unwrap).collect::<Vec<_>>().join(" "),
+        targets.unwrap()
+    );
+    assert!(listed
+        .lines()
+        .all(|line| line.split_whitespace().count() > 2));
+}

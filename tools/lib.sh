@@ -1,7 +1,7 @@
 #!/usr/bin/env bash
 # Proves the library and writes it: target/staticlib/libpairing.a, and the same file as libcapi.a, its crate's name.
-# Shows a line for each crate; the prover's own lines go to a log. Where the archive is there, and it and all that it is made
-# of are as they were when it was written, there is nothing to do.
+# Shows a line for each crate; the prover's own lines go to a log. Where the archive and all that it is made of are as they
+# were when it was written, there is nothing to do.
 set -euo pipefail
 cd "$(dirname "$0")/.."
 

@@ -14,10 +14,11 @@
 //! File::open("/dev/urandom")?.read_exact(&mut bytes)?;
 //! let words = bytes.chunks(4).map(|word| u32::from_le_bytes(word.try_into().unwrap()));
 //! let key: Vec<u32> = words.collect();
-//! let shown: Digest = settings.digest_bytes(sent.as_bytes(), &key)?;
-//! let typed: Digest = shown.to_string().parse()?;
-//! assert!(typed == shown);
-//! assert!(typed != settings.digest_bytes(arrived.as_bytes(), &key)?);
+//! let scanner = settings.digest_bytes(sent.as_bytes(), &key)?;
+//! let depot = settings.digest_bytes(arrived.as_bytes(), &key)?;
+//! // The scanner shows its digest as text. What the depot reads there is not what it has.
+//! let read: Digest = scanner.to_string().parse()?;
+//! assert!(read == scanner && read != depot);
 //! # Ok::<(), Box<dyn std::error::Error>>(())
 //! ```
 //!
@@ -28,12 +29,14 @@
 //! 3. Use it once.
 //! 4. Every retry is another chance for two different labels to match.
 //!
-//! The counts below hold for such a key alone. Who knows the key beforehand finds a second label
-//! with the digest of the first in less than a second.
+//! The counts below are over all keys, for two given labels; they say nothing of labels that were
+//! made to suit a key. Under a key that is known beforehand such a label can be searched for, which
+//! takes about half a second for a digest of one word of 32 bits.
 //!
-//! MT19937, which stretches a seed, is not a cryptographic generator. It need not be one, since the
-//! key is public by the time that a digest is made. But a seed of s words makes at most 2^(32·s)
-//! keys, and no count is proved for those: a key that is drawn whole has the counts.
+//! MT19937, which stretches a seed, is not a cryptographic generator. It need not be one: the key is
+//! public by the time that a digest is made (Nguyen and Roscoe, section 2). But a seed of s words
+//! makes at most 2^(32·s) keys, and no count is proved for those. The counts are for keys that are
+//! drawn whole.
 //!
 //! # What is proved, and of which keys
 //!
@@ -44,10 +47,8 @@
 //! (2F + 1)·2^(w·t + 1) keys of t + 1 words, where F is (2^w − 1) div 10^d. Length is in words.
 //! Bytes are closed, so the first count holds of different bytes of any lengths: over all keys of
 //! T + n words, where both make at most T words and each is digested under as many first words of
-//! the key as it needs, at most 2^(w·T + n + n·(w−b)) make them agree. A key made from a seed is
-//! one of at most as many as there are such seeds, 2^32 plain ones or 2^(32·k) arrays of k words,
-//! and no count is proved for those. Each row of a crew is the digest under one peer's key alone,
-//! so each peer has these counts.
+//! the key as it needs, at most 2^(w·T + n + n·(w−b)) make them agree. Each row of a crew is the
+//! digest under one peer's key alone, so each peer has these counts.
 
 #![deny(unsafe_code)]
 #![deny(missing_docs)]
@@ -84,6 +85,18 @@ pub const MOST_PEERS: usize = 16;
 /// word.
 ///
 /// The key has [`Settings::key_words`] words. Places of `out` beyond the digest keep what they held.
+///
+/// ```
+/// use pairing_agent::{digest_words, digests_match, Settings};
+///
+/// // The key has two words more than the message, one for each digest word.
+/// let settings = Settings { width: 8, kept: 8, words: 2 };
+/// let mut digest = [0; 2];
+/// digest_words(settings, &[3, 7], &[10, 20, 100, 250], &mut digest)?;
+/// assert_eq!(digest, [0xac, 0xff]);
+/// assert!(digests_match(settings.words, &digest, &[0xac, 0xff])?);
+/// # Ok::<(), pairing_agent::Refusal>(())
+/// ```
 ///
 /// # Errors
 ///

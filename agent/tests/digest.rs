@@ -116,7 +116,7 @@ fn every_bit_counts() {
             let mut other = row.clone();
             other[bit / 32] ^= 1 << (bit % 32);
             let two = digest(&other);
-            assert!(one != two && two != one, "bit {bit} of {one}");
+            assert!(one != two, "bit {bit} of {one}");
             assert_eq!(digests_match(size, one.words(), two.words()), Ok(false));
         }
     }
@@ -143,7 +143,8 @@ fn sizes_count() {
     for size in 1..MOST_DIGEST_WORDS {
         for longer in size + 1..=MOST_DIGEST_WORDS {
             let (one, two) = (digest(&vec![0; size]), digest(&vec![0; longer]));
-            assert!(one != two && two != one, "{size} and {longer}");
+            assert!(one != two, "{size} and {longer}");
+            assert!(two != one, "{longer} and {size}");
             let refused = digests_match(size as u32, one.words(), two.words());
             assert_eq!(refused, Err(Refusal::Tray));
         }
