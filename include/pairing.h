@@ -30,9 +30,8 @@
  * proved for those.
  *
  * What the counts cover: how many keys make two different messages agree is proved
- * over all keys of t + n words drawn uniformly, n being 1 for a code.
- * Messages of words have one length there; of bytes, any lengths
- * (pairing_digest_bytes).
+ * over all keys of t + n words drawn uniformly, n being 1 for a code. Messages of
+ * words have one length there; of bytes, any lengths (pairing_digest_bytes).
  */
 #ifndef PAIRING_H
 #define PAIRING_H
