@@ -42,9 +42,10 @@
 //!
 //! Every answer and every row is proved to be the one that the definitions give. So are two counts
 //! over all keys of t + n words drawn uniformly: how many make two different messages of one length
-//! agree, at most 2^(w·t + n + n·(w−b)) of 2^(w·(t+n)); and how many give a message each digest.
-//! Codes of d digits have a third: two different messages of t words share one under at most
-//! (2F + 1)·2^(w·t + 1) keys of t + 1 words, where F is (2^w − 1) div 10^d. Length is in words.
+//! agree, at most 2^(w·t + n + n·(w−b)) of 2^(w·(t+n)); and how many give a message with a word
+//! that is not 0 each digest, exactly 2^(w·t + n·(w−b)). Codes of d digits have a third: two
+//! different messages of t words share one under at most (2F + 1)·2^(w·t + 1) keys of t + 1 words,
+//! where F is (2^w − 1) div 10^d. Length is in words.
 //! Bytes are closed, so the first count holds of different bytes of any lengths: over all keys of
 //! T + n words, where both make at most T words and each is digested under as many first words of
 //! the key as it needs, at most 2^(w·T + n + n·(w−b)) make them agree. Each row of a crew is the

@@ -1,5 +1,6 @@
 //! Every list of the answers' numbers is the same list: the proved library's constants, the C
-//! header, `Refusal`, the README's table and `pairing explain`. So are the limits and the version.
+//! header, `Refusal`, the README's table and `pairing explain`. So are the limits and the version, and
+//! the README's lines of Rust are the crate's.
 
 #![forbid(unsafe_code)]
 
@@ -171,4 +172,26 @@ fn the_library_has_the_crates_version() {
     let weights =
         "(PAIRING_VERSION_MAJOR * 10000u + PAIRING_VERSION_MINOR * 100u + PAIRING_VERSION_PATCH)";
     assert_eq!(HEADER.matches(weights).count(), 1);
+}
+
+/// The lines of the first fence that begins so, without the hidden ones of a documentation test.
+fn fenced(text: &str, fence: &str) -> Vec<String> {
+    let (_, rest) = text.split_once(&format!("{fence}\n")).expect("a fence");
+    let (inside, _) = rest.split_once("```").expect("its end");
+    let shown = inside.lines().filter(|line| !line.starts_with("# "));
+    shown.map(str::to_string).collect()
+}
+
+/// The README's example is the crate's own, which the documentation tests run.
+#[test]
+fn the_rust_of_the_readme_is_the_crates() {
+    let crate_page = include_str!("../src/lib.rs");
+    let page: Vec<&str> = crate_page
+        .lines()
+        .map_while(|line| line.strip_prefix("//!"))
+        .map(|line| line.strip_prefix(' ').unwrap_or(line))
+        .collect();
+    let shown = fenced(README, "```rust");
+    assert!(shown.len() > 10);
+    assert_eq!(shown, fenced(&page.join("\n"), "```"));
 }
