@@ -65,7 +65,48 @@ impl Refusal {
             .find(|refusal| refusal.number() == number)
     }
 
-    /// When the library gives it, as a sentence. What to do then is the refusal's own text.
+    /// What is wrong, in a few words. The refusal's own text is this and what to do.
+    const fn fault(self) -> &'static str {
+        match self {
+            Refusal::State => "damaged state",
+            Refusal::Width => "wrong width",
+            Refusal::Digits => "wrong code size",
+            Refusal::Seed => "wrong seed size",
+            Refusal::Kept => "wrong kept bits",
+            Refusal::Count => "wrong digest size",
+            Refusal::Peers => "wrong crew size",
+            Refusal::Long => "too long",
+            Refusal::Key | Refusal::Tray => "wrong lengths",
+            Refusal::Word => "word too large",
+        }
+    }
+
+    /// What to do when the library gives it, the first thing first.
+    #[must_use]
+    pub const fn what_to_do(self) -> &'static str {
+        match self {
+            Refusal::State => "throw it away, open a new one and start over",
+            Refusal::Width => "set words of 1 to 32 bits, or of 8, 16 or 32 bits to digest bytes",
+            Refusal::Digits => {
+                "ask for 1 to 9 digits, fewer at a width below 30, or set a larger width"
+            }
+            Refusal::Seed => "give an array of 1 to 8 seed words",
+            Refusal::Kept => "keep at least 1 bit and no more than the width",
+            Refusal::Count => "ask for 1 to 8 digest words",
+            Refusal::Peers => "pair 1 to 16 peers at a time",
+            Refusal::Long => "shorten the message, or the row to stretch or load into",
+            Refusal::Key => {
+                "give a key that goes with the message; check the word count and pair again"
+            }
+            Refusal::Tray => {
+                "lend an output with room for the whole digest or code, and match rows of exactly \
+                 the digest's size; check the word count and pair again"
+            }
+            Refusal::Word => "check that both ends use one width, and pair again",
+        }
+    }
+
+    /// When the library gives it, as a sentence.
     #[must_use]
     pub const fn given_when(self) -> &'static str {
         match self {
@@ -107,32 +148,7 @@ impl Refusal {
 
 impl fmt::Display for Refusal {
     fn fmt(&self, to: &mut fmt::Formatter<'_>) -> fmt::Result {
-        to.write_str(match self {
-            Refusal::Width => {
-                "wrong width: set words of 1 to 32 bits, or of 8, 16 or 32 bits to digest bytes"
-            }
-            Refusal::Digits => {
-                "wrong code size: ask for 1 to 9 digits, fewer at a width below 30, or set a \
-                 larger width"
-            }
-            Refusal::Seed => "wrong seed size: give an array of 1 to 8 seed words",
-            Refusal::Kept => "wrong kept bits: keep at least 1 bit and no more than the width",
-            Refusal::Count => "wrong digest size: ask for 1 to 8 digest words",
-            Refusal::Peers => "wrong crew size: pair 1 to 16 peers at a time",
-            Refusal::Long => "too long: shorten the message, or the row to stretch or load into",
-            Refusal::Key => {
-                "wrong lengths: the key does not go with the message; \
-                 check the word count and pair again"
-            }
-            Refusal::Tray => {
-                "wrong lengths: lend an output with room for the whole digest or code, and match \
-                 rows of exactly the digest's size; check the word count and pair again"
-            }
-            Refusal::Word => {
-                "word too large: both ends must use one width; check it and pair again"
-            }
-            Refusal::State => "damaged state: throw it away, open a new one and start over",
-        })
+        write!(to, "{}: {}", self.fault(), self.what_to_do())
     }
 }
 

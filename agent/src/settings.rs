@@ -46,4 +46,31 @@ impl Settings {
             _ => 0,
         }
     }
+
+    /// The words that `bytes` make with the byte 0x80 that closes them: [`Settings::words_of_bytes`]
+    /// of them, with the first byte lowest, and zero bytes fill up the last. None at a width other
+    /// than 8, 16 and 32, which no bytes fill.
+    ///
+    /// So calls that take words, as [`digest_code`](crate::digest_code) and
+    /// [`digest_crew`](crate::digest_crew) do, can take a label: the digest of these words is the one
+    /// that [`digest_bytes`](crate::digest_bytes) gives of the bytes. That is tested, and not proved:
+    /// the library closes bytes itself.
+    ///
+    /// ```
+    /// let settings = pairing_agent::Settings { width: 32, kept: 32, words: 1 };
+    /// assert_eq!(settings.closed_words(b"depot"), [0x6f70_6564, 0x0000_8074]);
+    /// assert_eq!(settings.closed_words(b""), [0x80]);
+    /// ```
+    #[must_use]
+    pub fn closed_words(&self, bytes: &[u8]) -> Vec<u32> {
+        let mut words = vec![0; self.words_of_bytes(bytes.len())];
+        if words.is_empty() {
+            return words;
+        }
+        let in_a_word = self.width as usize / 8;
+        for (place, byte) in bytes.iter().chain(&[0x80]).enumerate() {
+            words[place / in_a_word] |= u32::from(*byte) << (8 * (place % in_a_word));
+        }
+        words
+    }
 }

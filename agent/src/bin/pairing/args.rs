@@ -85,10 +85,9 @@ impl Args {
         self.number(name)?.ok_or_else(|| missing(name))
     }
 
-    /// The first operand, which must be given and has that name, and those after it.
-    pub fn operands_from(&self, name: &str) -> Result<(&OsStr, &[OsString]), Failure> {
-        let (first, rest) = self.operands.split_first().ok_or_else(|| missing(name))?;
-        Ok((first, rest))
+    /// All operands.
+    pub fn all_operands(&self) -> &[OsString] {
+        &self.operands
     }
 
     /// The operands, which must be those named.

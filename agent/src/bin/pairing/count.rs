@@ -2,10 +2,12 @@
 
 use crate::args::Args;
 use crate::ending::{usage, Answer, Failure};
-use crate::output::{self, NewFile};
-use crate::{histogram, picture, refused};
-use pairing_agent::{Refusal, Settings};
+use crate::output::{self, Outputs};
+use crate::show::thousands;
+use crate::{histogram, picture, place, refused};
+use pairing_agent::Refusal;
 use std::collections::BTreeMap;
+use std::ffi::OsStr;
 use std::io::IsTerminal;
 
 pub const HELP: &str = "\
@@ -14,7 +16,9 @@ The largest count of keys under which two different messages have one digest.
 Usage: pairing count --width W [--svg FILE]
 
   --width W    bits of a word, 1 to 10
-  --svg FILE   also draw the histogram into this file
+  --svg FILE   also draw the histogram into this file, which is written whole or
+               not at all; - is standard output, and then the picture alone is
+               printed
 
 Takes every pair of different one-word messages and every key, with one digest
 word and all W bits kept. Prints the largest count, the first pair that reaches
@@ -32,37 +36,45 @@ const REPORTED: (u32, u32) = (7, 240);
 pub fn run(args: Args) -> Result<Answer, Failure> {
     let w = args.needed_number("--width")?;
     let [] = args.operands([])?;
-    let refused = |refusal| refused::width(refusal, w);
-    // The library's word on the width comes first.
-    digest(w, 0, [0, 0]).map_err(refused)?;
-    if w > WIDEST {
-        return Err(usage(too_wide(w)));
+    if !(1..=WIDEST).contains(&w) {
+        return Err(usage(not_counted(w)));
     }
+    let printed = OsStr::new("-");
+    let files = match args.value("--svg") {
+        None => vec![printed],
+        Some(svg) if place::same(svg, printed) => vec![svg],
+        Some(svg) => vec![svg, printed],
+    };
     // Opened before the count, so that a file that cannot be written costs no wait.
-    let svg = args.value("--svg").map(NewFile::create).transpose()?;
-    let count = Count::run(w).map_err(refused)?;
-    if let Some(file) = svg {
-        file.write(&picture::draw(&count))?;
+    let outputs = Outputs::open(&files)?;
+    let count = Count::run(w).map_err(|refusal| refused::width(refusal, w))?;
+    let text = count.summary() + "\n" + &histogram::draw(&count.pairs_at);
+    match args.value("--svg") {
+        None => outputs.write(&[&text])?,
+        Some(_) => outputs.write(&[&picture::draw(&count), &text])?,
     }
-    Ok(Answer::accepted(
-        count.summary() + "\n" + &histogram::draw(&count.pairs_at),
-    ))
+    Ok(Answer::accepted(""))
 }
 
 /// The digest of a one-word message, computed by the proved library.
 fn digest(w: u32, message: u32, key: [u32; 2]) -> Result<u32, Refusal> {
-    let settings = Settings {
-        width: w,
-        kept: w,
-        words: 1,
-    };
     let mut out = [0];
-    pairing_agent::digest_words(settings, &[message], &key, &mut out)?;
+    pairing_agent::digest_words(refused::one_word(w), &[message], &key, &mut out)?;
     Ok(out[0])
 }
 
-/// What the count at too large a width would take.
-fn too_wide(w: u32) -> String {
+/// Why a width is not counted.
+fn not_counted(w: u32) -> String {
+    let why = match w {
+        1..=32 => cost(w),
+        _ => "a word has 1 to 32 bits".into(),
+    };
+    let w = thousands(w);
+    format!("width {w} is not counted, only widths 1 to {WIDEST} are: {why}")
+}
+
+/// What the count would take.
+fn cost(w: u32) -> String {
     const DIGESTS_A_SECOND: f64 = 20e6;
     let hours = 2f64.powi(3 * w as i32) / DIGESTS_A_SECOND / 3600.0;
     let time = if hours < 1.0 {
@@ -77,9 +89,8 @@ fn too_wide(w: u32) -> String {
         format!("{:.0e} years", hours / 24.0 / 365.0)
     };
     format!(
-        "width {w} is not counted: every message under every key makes 2^{} digests, about \
-         {time} of work and a table of 2^{} counts; the widest that is counted is {WIDEST}, and \
-         the bound is proved for every width",
+        "every message under every key makes 2^{} digests, about {time} of work and a table of \
+         2^{} counts; the bound is proved for every width",
         3 * w,
         2 * w
     )

@@ -3,25 +3,28 @@
 use crate::args::{self, Args};
 use crate::digest::{self, size_help};
 use crate::ending::{usage, Answer, Failure};
+use crate::message::{label_help, Message, Source};
+use crate::rule::rule_help;
 use crate::{input, refused};
 use pairing_agent::{Refusal, Settings, MOST_DIGEST_WORDS, MOST_PEERS};
 use std::ffi::{OsStr, OsString};
 
-pub const OPTIONS: &[&str] = &["--width", "--kept", "--words", "--seeds"];
+pub const OPTIONS: &[&str] = &["--width", "--kept", "--words", "--seeds", "--label"];
 
 pub const HELP: &str = concat!(
-    "The digests of one row of words under the keys of up to 16 peers.
+    "The digests of one row of words, or of a label, under the keys of up to 16 peers.
 
-Usage: pairing crew [--width W] [--kept B] [--words N] FILE KEY...
-       pairing crew [--width W] [--kept B] [--words N] --seeds SEEDS FILE
+Usage: pairing crew [--width W] [--kept B] [--words N]
+                    (FILE | --label FILE) (KEY... | --seeds SEEDS)
 
   --width W    bits of a word, 1 to 32; 32 if not given
 ",
     size_help!(),
     "  --seeds SEEDS
                stretch a key for each peer from its seed in this file of numbers
-  FILE         the message, as a file of numbers
-  KEY          a peer's key, as a file of numbers; it has N words more than the
+",
+    label_help!(),
+    "  KEY          a peer's key, as a file of numbers; it has N words more than the
                message; 1 to 16 of them
 One of the files can be standard input, as -.
 
@@ -29,13 +32,14 @@ Prints a line for each peer, in the order of the keys: its digest words, each as
 eight hexadecimal digits, as 'pairing digest-words' prints them under its key
 alone. No other peer's key changes them; a key that is not fit refuses the call
 for all.
-"
+",
+    rule_help!()
 );
 
 /// A call of a crew with all but the keys.
 struct Crew {
     settings: Settings,
-    message: Vec<u32>,
+    message: Message,
 }
 
 impl Crew {
@@ -44,7 +48,8 @@ impl Crew {
         // Room for the largest crew and digest, so that the output is never too short.
         let mut out = vec![0; MOST_PEERS * MOST_DIGEST_WORDS];
         let number = u32::try_from(peers).unwrap_or(u32::MAX);
-        pairing_agent::digest_crew(self.settings, number, &self.message, keys, &mut out)?;
+        let message = self.message.in_words(self.settings.width)?;
+        pairing_agent::digest_crew(self.settings, number, &message, keys, &mut out)?;
         out.truncate(peers * self.settings.words as usize);
         Ok(out)
     }
@@ -53,13 +58,18 @@ impl Crew {
     /// that is right though a key's own is not, it is asked about that key alone.
     fn digests_of(&self, keys: &[Vec<u32>]) -> Result<Vec<u32>, Failure> {
         let answer = self.digests(keys.len(), &keys.concat());
-        let words = self.settings.key_words(self.message.len());
+        let words = self.key_words();
         let unlike = keys.iter().find(|key| key.len() != words);
         let answer = match (answer, unlike) {
             (Ok(_) | Err(Refusal::Word), Some(key)) => self.digests(1, key),
             (answer, _) => answer,
         };
         answer.map_err(|refusal| self.refused(refusal, keys))
+    }
+
+    /// How many words each key has.
+    fn key_words(&self) -> usize {
+        self.settings.key_words(self.message.words(self.settings))
     }
 
     /// A key for each seed. A first call without keys is refused: with a test that comes before Key,
@@ -78,7 +88,7 @@ impl Crew {
             }
         }
         let key = |seed: &u32| {
-            let mut key = vec![0; self.settings.key_words(self.message.len())];
+            let mut key = vec![0; self.key_words()];
             pairing_agent::stretch(self.settings.width, *seed, &mut key)
                 .map_err(|refusal| self.refused(refusal, &[]))?;
             Ok(key)
@@ -93,9 +103,9 @@ impl Crew {
 
 pub fn run(args: Args) -> Result<Answer, Failure> {
     let settings = digest::settings(&args)?;
-    let (file, keys) = args.operands_from("FILE")?;
+    let (source, keys) = Source::given(&args)?;
     let seeds = args.value("--seeds");
-    let sources = [Some(file), seeds].into_iter().flatten();
+    let sources = [Some(source.file()), seeds].into_iter().flatten();
     one_standard_input(sources.chain(keys.iter().map(OsString::as_os_str)))?;
     match (seeds, keys) {
         (None, []) => return Err(args::missing("KEY or --seeds")),
@@ -104,7 +114,7 @@ pub fn run(args: Args) -> Result<Answer, Failure> {
     }
     let crew = Crew {
         settings,
-        message: input::numbers(file)?,
+        message: source.read()?,
     };
     let keys = match seeds {
         Some(seeds) => crew.stretched(&input::numbers(seeds)?)?,

@@ -2,9 +2,10 @@
 
 use crate::args::Args;
 use crate::ending::{Answer, Failure};
-use crate::keyed::{key_help, Keyed, Sources};
+use crate::keyed::{key_help, Key, Keyed};
 use crate::message::Message;
 use crate::refused;
+use crate::rule::rule_help;
 use pairing_agent::{Refusal, Settings, MOST_DIGEST_WORDS};
 use std::ffi::OsStr;
 
@@ -41,7 +42,8 @@ The byte 0x80 closes the message, also an empty one, so that zero bytes at its
 end count. Closed, it fills words with the first byte lowest, and zero bytes
 fill up the last word: of 32 bits, 7 bytes are 2 words, and 8 bytes are 3.
 Prints the digest words, each as eight hexadecimal digits.
-"
+",
+    rule_help!()
 );
 
 pub const WORDS_HELP: &str = concat!(
@@ -56,7 +58,8 @@ Usage: pairing digest-words [--width W] [--kept B] [--words N]
     "  FILE         the message, as a file of numbers; - is standard input
 
 Prints the digest words, each as eight hexadecimal digits.
-"
+",
+    rule_help!()
 );
 
 struct Digest {
@@ -111,7 +114,8 @@ pub fn settings(args: &Args) -> Result<Settings, Failure> {
 
 fn run(args: &Args, read: fn(&OsStr) -> Result<Message, Failure>) -> Result<Answer, Failure> {
     let settings = settings(args)?;
-    let sources = Sources::given(args)?;
-    let message = read(sources.message)?;
-    sources.answer(&Digest { settings, message })
+    let [file] = args.operands(["FILE"])?;
+    let key = Key::given(args, file)?;
+    let message = read(file)?;
+    key.answer(&Digest { settings, message })
 }

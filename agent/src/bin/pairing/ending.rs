@@ -34,17 +34,20 @@ pub enum Failure {
     Content(String),
     /// A file cannot be read or written.
     Access(String),
+    /// Who reads standard output has closed it before its end, and wants no more.
+    Unread,
 }
 
 impl Failure {
     /// The exit status. Those from 64 on are named EX_USAGE, EX_DATAERR and EX_IOERR in C's
-    /// sysexits.h.
+    /// sysexits.h; the last is what a shell gives of a program that the signal SIGPIPE ended.
     pub fn status(&self) -> u8 {
         match self {
             Failure::Refused(..) => 2,
             Failure::Usage(_) => 64,
             Failure::Content(_) => 65,
             Failure::Access(_) => 74,
+            Failure::Unread => 141,
         }
     }
 
@@ -60,6 +63,7 @@ impl Failure {
             Failure::Usage(text) | Failure::Content(text) | Failure::Access(text) => {
                 format!("pairing: {text}\n")
             }
+            Failure::Unread => String::new(),
         }
     }
 

@@ -2,7 +2,7 @@
 
 use crate::ending::{access, content, Failure};
 use crate::number::number;
-use crate::show::named;
+use crate::show::{named, thousands};
 use crate::stdio;
 use std::ffi::OsStr;
 use std::fs::File;
@@ -40,14 +40,16 @@ fn text(file: &OsStr) -> Result<String, Failure> {
     let unfit = |why: &str| Err(content(format!("{} {why}", name(file))));
     let mut bytes = bytes(file)?;
     if bytes.len() == MOST_BYTES {
-        return unfit("is too large to read");
+        let most = thousands(MOST_BYTES - 1);
+        return unfit(&format!("is too large to read: at most {most} bytes are"));
     }
     match bytes[..] {
         [0xff, 0xfe, ..] | [0xfe, 0xff, ..] => return unfit("holds UTF-16 text; save it as UTF-8"),
         [0xef, 0xbb, 0xbf, ..] => drop(bytes.drain(..3)),
         _ => {}
     }
-    String::from_utf8(bytes).or_else(|_| unfit("holds no text"))
+    String::from_utf8(bytes)
+        .or_else(|_| unfit("holds no text; bytes of any kind go to 'pairing digest'"))
 }
 
 /// The numbers that the file holds, separated by white space.

@@ -38,46 +38,35 @@ pub trait Keyed {
     fn refused(&self, refusal: Refusal, key: &[u32]) -> Failure;
 }
 
-/// Where message and key come from.
-pub struct Sources<'a> {
-    pub message: &'a OsStr,
-    key: Key<'a>,
+/// Where the key comes from.
+pub enum Key<'a> {
+    Seed(Source<'a>),
+    File(&'a OsStr),
 }
 
-impl Sources<'_> {
-    pub fn given(args: &Args) -> Result<Sources<'_>, Failure> {
-        let key = Key::given(args)?;
-        let [message] = args.operands(["FILE"])?;
+impl<'a> Key<'a> {
+    /// The key that the arguments give, beside the message's file.
+    pub fn given(args: &'a Args, message: &OsStr) -> Result<Key<'a>, Failure> {
+        let key = match (Source::given(args)?, args.value("--key")) {
+            (Some(seed), None) => Key::Seed(seed),
+            (None, Some(file)) => Key::File(file),
+            (None, None) => return Err(missing("--seed or --key")),
+            (Some(_), Some(_)) => return Err(usage("only one of --seed and --key can be given")),
+        };
         if message == "-" && key.is_standard_input() {
             return Err(usage(
                 "only one of message, seed and key can be standard input",
             ));
         }
-        Ok(Sources { message, key })
+        Ok(key)
     }
 
     /// The answer of the call under the key.
     pub fn answer(self, call: &impl Keyed) -> Result<Answer, Failure> {
-        let key = self.key.read(call)?;
+        let key = self.read(call)?;
         let text = call.text(&key);
         let text = text.map_err(|refusal| call.refused(refusal, &key))?;
         Ok(Answer::accepted(text + "\n"))
-    }
-}
-
-enum Key<'a> {
-    Seed(Source<'a>),
-    File(&'a OsStr),
-}
-
-impl Key<'_> {
-    fn given(args: &Args) -> Result<Key<'_>, Failure> {
-        match (Source::given(args)?, args.value("--key")) {
-            (Some(seed), None) => Ok(Key::Seed(seed)),
-            (None, Some(file)) => Ok(Key::File(file)),
-            (None, None) => Err(missing("--seed or --key")),
-            (Some(_), Some(_)) => Err(usage("only one of --seed and --key can be given")),
-        }
     }
 
     fn is_standard_input(&self) -> bool {

@@ -2,10 +2,11 @@
 
 use crate::args::{self, Args};
 use crate::ending::{usage, Answer, Failure};
-use crate::output::{self, NewFile};
-use crate::refused;
+use crate::output::{self, Outputs};
 use crate::seed::{seed_help, Source};
 use crate::stretch::{lent, lines};
+use crate::{place, refused};
+use std::ffi::OsStr;
 
 pub const OPTIONS: &[&str] = &["--width", "--seed", "--key-to", "--message-to"];
 
@@ -25,7 +26,8 @@ Usage: pairing load [--width W] --seed S --key-to FILE --message-to FILE
   KEY_COUNT    how many key words, up to 65544
   MESSAGE_COUNT
                how many message words, up to 65536
-One of the files can be standard output, as -.
+One of the files can be standard output, as -. Both are written whole or not at
+all: new files are made beside them and renamed, and keep the permissions.
 
 Writes a word a line, as 'pairing stretch' prints it: a file for --key, and one for
 the message of 'pairing digest-words'. The key row is the stretch of the seed, and
@@ -44,24 +46,21 @@ pub fn run(args: Args) -> Result<Answer, Failure> {
     let [key_words, message_words] = args.operands(["KEY_COUNT", "MESSAGE_COUNT"])?;
     let key_words = args::number("KEY_COUNT", key_words)?;
     let message_words = args::number("MESSAGE_COUNT", message_words)?;
-    if files[0] == files[1] {
-        let name = output::name(files[0]);
-        return Err(usage(format!("only one of the rows can go to {name}")));
+    if place::same(files[0], files[1]) {
+        return Err(one_place(files));
     }
     let seed = seed.read()?;
     let (mut key, mut message) = (lent(key_words), lent(message_words));
     seed.load(width, &mut key, &mut message)
         .map_err(|refusal| refused::load(refusal, width, &seed, key_words, message_words))?;
-    let mut printed = String::new();
-    let mut written = vec![];
-    for (file, row) in files.into_iter().zip([key, message]) {
-        match file == "-" {
-            true => printed = lines(&row),
-            false => written.push((NewFile::create(file)?, lines(&row))),
-        }
-    }
-    for (file, text) in written {
-        file.write(&text)?;
-    }
-    Ok(Answer::accepted(printed))
+    Outputs::open(&files)?.write(&[&lines(&key), &lines(&message)])?;
+    Ok(Answer::accepted(""))
+}
+
+fn one_place(files: [&OsStr; 2]) -> Failure {
+    let [first, second] = files.map(output::name);
+    usage(match first == second {
+        true => format!("only one of the rows can go to {first}"),
+        false => format!("only one of the rows can go to {first}, and {second} is the same"),
+    })
 }

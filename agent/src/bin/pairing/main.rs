@@ -21,13 +21,16 @@ mod message;
 mod number;
 mod output;
 mod picture;
+mod place;
 mod refused;
+mod rule;
 mod seed;
 mod show;
 // Whether a standard stream is closed can be seen only before Rust's runtime starts, by a C call.
 #[allow(unsafe_code)]
 mod stdio;
 mod stretch;
+mod words;
 
 use args::Args;
 use ending::{usage, Answer, Failure};
@@ -44,11 +47,12 @@ Usage: pairing COMMAND ...
   digest-words   the digest of a row of words
   code           the code of a row of words: digits to be read aloud
   crew           the digests of a row of words under the keys of up to 16 peers
+  words          the words that a file's bytes make, for the commands that take words
   stretch        key words from a seed
   load           a key row and a message row from a seed, for a test bench
   match          whether two digests agree
   count          the largest count of keys under which two messages agree
-  explain        what an answer's number means, and what to do
+  explain        what an answer means, by number or word, and what to do
 
 'pairing COMMAND --help' or 'pairing help COMMAND' describes a command, and
 'pairing --version' prints the version.
@@ -62,6 +66,7 @@ Exit status:
   64   wrong usage: a command, option or argument that is not taken
   65   a file whose content cannot be used
   74   a file that cannot be read or written, standard output included
+ 141   standard output is a pipe whose reader left; nothing is said of it
 ";
 
 const VERSION: &str = concat!("pairing ", env!("CARGO_PKG_VERSION"), "\n");
@@ -73,7 +78,7 @@ struct Command {
     run: fn(Args) -> Result<Answer, Failure>,
 }
 
-static COMMANDS: [Command; 9] = [
+static COMMANDS: [Command; 10] = [
     Command {
         name: "digest",
         help: digest::BYTES_HELP,
@@ -97,6 +102,12 @@ static COMMANDS: [Command; 9] = [
         help: crew::HELP,
         options: crew::OPTIONS,
         run: crew::run,
+    },
+    Command {
+        name: "words",
+        help: words::HELP,
+        options: &["--width"],
+        run: words::run,
     },
     Command {
         name: "stretch",

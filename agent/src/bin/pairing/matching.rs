@@ -3,8 +3,10 @@
 use crate::args::Args;
 use crate::ending::{usage, Answer, Failure};
 use crate::number::digest_word;
+use crate::show::shown;
 use crate::{input, refused};
 use std::ffi::OsStr;
+use std::path::Path;
 
 pub const HELP: &str = "\
 Whether two digests agree at every place.
@@ -43,8 +45,18 @@ fn digest(operand: &OsStr) -> Result<Vec<u32>, Failure> {
     match input::at_file(operand) {
         Some(file) => input::row(file, apart, digest_word),
         None => input::words(&operand.to_string_lossy(), apart)
-            .map(|word| digest_word(word).map_err(usage))
+            .map(|word| digest_word(word).map_err(|why| usage(why + &or_a_file(operand))))
             .collect(),
+    }
+}
+
+/// What to write if the operand, which is no digest, is a file or looks like one.
+fn or_a_file(operand: &OsStr) -> String {
+    let text = operand.to_string_lossy();
+    let like_a_digest = |letter: char| letter.is_ascii_hexdigit() || letter == 'x' || apart(letter);
+    match Path::new(operand).is_file() || !text.chars().all(like_a_digest) {
+        true => format!("; for a file write @{}", shown(operand)),
+        false => String::new(),
     }
 }
 

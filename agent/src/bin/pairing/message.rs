@@ -1,9 +1,11 @@
 //! A message, of bytes or of words.
 
-use crate::ending::Failure;
-use crate::input;
+use crate::args::{missing, Args};
+use crate::ending::{content, Failure};
+use crate::{input, refused};
 use pairing_agent::{Refusal, Settings};
-use std::ffi::OsStr;
+use std::borrow::Cow;
+use std::ffi::{OsStr, OsString};
 
 pub enum Message {
     Bytes(Vec<u8>),
@@ -26,6 +28,19 @@ impl Message {
         }
     }
 
+    /// Its words, for a call that takes only words. The width must be one that bytes fill; the
+    /// library is asked, by a digest without a key. Its later tests are left to the call itself.
+    pub fn in_words(&self, width: u32) -> Result<Cow<'_, [u32]>, Refusal> {
+        let settings = refused::one_word(width);
+        match self {
+            Message::Bytes(bytes) => match self.digest(settings, &[], &mut []) {
+                Err(Refusal::Width) => Err(Refusal::Width),
+                _ => Ok(settings.closed_words(bytes).into()),
+            },
+            Message::Words(words) => Ok(words.into()),
+        }
+    }
+
     /// Its words where they were given, and may be too large; those that bytes make never are.
     pub fn given_words(&self) -> &[u32] {
         match self {
@@ -40,5 +55,55 @@ impl Message {
             Message::Bytes(bytes) => settings.words_of_bytes(bytes.len()),
             Message::Words(words) => words.len(),
         }
+    }
+}
+
+/// The file of a message that is a row of words, or a label after `--label`.
+pub enum Source<'a> {
+    Numbers(&'a OsStr),
+    Label(&'a OsStr),
+}
+
+/// What the help of a command says of both.
+macro_rules! label_help {
+    () => {
+        "  FILE         the message, as a file of numbers; - is standard input
+  --label FILE
+               take the message from a file of any bytes, closed as in 'pairing
+               digest'; the width is then 8, 16 or 32
+"
+    };
+}
+pub(crate) use label_help;
+
+impl<'a> Source<'a> {
+    /// The one that is given, and the operands that are left.
+    pub fn given(args: &'a Args) -> Result<(Source<'a>, &'a [OsString]), Failure> {
+        match (args.value("--label"), args.all_operands()) {
+            (Some(label), rest) => Ok((Source::Label(label), rest)),
+            (None, [file, rest @ ..]) => Ok((Source::Numbers(file), rest)),
+            (None, []) => Err(missing("FILE or --label")),
+        }
+    }
+
+    pub fn file(&self) -> &'a OsStr {
+        match self {
+            Source::Numbers(file) | Source::Label(file) => file,
+        }
+    }
+
+    pub fn read(&self) -> Result<Message, Failure> {
+        match self {
+            Source::Numbers(file) => Message::read_words(file).map_err(or_a_label),
+            Source::Label(file) => Message::read_bytes(file),
+        }
+    }
+}
+
+/// A file that is not of numbers may well be a label.
+fn or_a_label(failure: Failure) -> Failure {
+    match failure {
+        Failure::Content(text) => content(format!("{text}; for a label write --label FILE")),
+        other => other,
     }
 }

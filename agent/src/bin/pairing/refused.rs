@@ -13,13 +13,19 @@ use pairing_agent::{MOST_DIGEST_WORDS, MOST_KEY_WORDS, MOST_MESSAGE_WORDS};
 const WIDTHS: &str = "1 to 32";
 const WIDTHS_FOR_BYTES: &str = "8, 16 or 32";
 
+/// The settings of a call that has only a width: one digest word, every bit kept.
+pub fn one_word(width: u32) -> Settings {
+    Settings {
+        width,
+        kept: width,
+        words: 1,
+    }
+}
+
 pub fn digest(refusal: Refusal, settings: Settings, message: &Message, key: &[u32]) -> Failure {
     let Settings { width, kept, words } = settings;
     let figures = match refusal {
-        Refusal::Width => Some(match message {
-            Message::Bytes(_) => width_figures(width, WIDTHS_FOR_BYTES),
-            Message::Words(_) => width_figures(width, WIDTHS),
-        }),
+        Refusal::Width => Some(width_figures(width, widths(message))),
         Refusal::Kept => Some(kept_figures(kept, width)),
         Refusal::Count => Some(count_figures(words)),
         Refusal::Long => Some(long_figures(message, settings)),
@@ -34,37 +40,38 @@ pub fn crew(
     refusal: Refusal,
     settings: Settings,
     peers: usize,
-    message: &[u32],
+    message: &Message,
     keys: &[Vec<u32>],
 ) -> Failure {
     let Settings { width, kept, words } = settings;
     let figures = match refusal {
-        Refusal::Width => Some(width_figures(width, WIDTHS)),
+        Refusal::Width => Some(width_figures(width, widths(message))),
         Refusal::Kept => Some(kept_figures(kept, width)),
         Refusal::Count => Some(count_figures(words)),
         Refusal::Peers => Some(format!("{}; 1 to {MOST_PEERS}", counted(peers, "peer"))),
-        Refusal::Long => Some(most_words("", message.len())),
-        Refusal::Key => key_of_a_crew_figures(settings, message.len(), keys),
-        Refusal::Word => word_of_a_crew_figures(message, width, keys),
+        Refusal::Long => Some(long_figures(message, settings)),
+        Refusal::Key => key_of_a_crew_figures(settings, message.words(settings), keys),
+        Refusal::Word => word_of_a_crew_figures(message.given_words(), width, keys),
         _ => None,
     };
     Failure::Refused(refusal, figures)
 }
 
-pub fn code(refusal: Refusal, width: u32, digits: u32, message: &[u32], key: &[u32]) -> Failure {
+pub fn code(refusal: Refusal, width: u32, digits: u32, message: &Message, key: &[u32]) -> Failure {
+    let settings = one_word(width);
     let figures = match refusal {
-        Refusal::Width => Some(width_figures(width, WIDTHS)),
+        Refusal::Width => Some(width_figures(width, widths(message))),
         Refusal::Digits => Some(digits_figures(digits, width)),
-        Refusal::Long => Some(most_words("", message.len())),
-        Refusal::Key => Some(key_figures(message.len(), 1, key.len())),
-        Refusal::Word => word_figures(message, width, key),
+        Refusal::Long => Some(long_figures(message, settings)),
+        Refusal::Key => Some(key_figures(message.words(settings), 1, key.len())),
+        Refusal::Word => word_figures(message.given_words(), width, key),
         _ => None,
     };
     Failure::Refused(refusal, figures)
 }
 
 pub fn stretch(refusal: Refusal, width: u32, seed: &Seed, words: u32) -> Failure {
-    let long = at_most("", words as usize, "words", MOST_KEY_WORDS);
+    let long = at_most(words as usize, "words", MOST_KEY_WORDS);
     from_seed(refusal, width, seed, long)
 }
 
@@ -76,8 +83,8 @@ pub fn load(
     message_words: u32,
 ) -> Failure {
     let long = match key_words as usize {
-        words if words > MOST_KEY_WORDS => at_most("", words, "key words", MOST_KEY_WORDS),
-        _ => most_words("", message_words as usize),
+        words if words > MOST_KEY_WORDS => at_most(words, "key words", MOST_KEY_WORDS),
+        _ => most_words(message_words as usize),
     };
     from_seed(refusal, width, seed, long)
 }
@@ -98,7 +105,7 @@ pub fn seed(given: &Seed) -> Failure {
     Failure::Refused(Refusal::Seed, Some(figures))
 }
 
-/// A call in which only the width can be wrong.
+/// A call in which only the width can still be wrong.
 pub fn width(refusal: Refusal, given: u32) -> Failure {
     let figures = (refusal == Refusal::Width).then(|| width_figures(given, WIDTHS));
     Failure::Refused(refusal, figures)
@@ -119,8 +126,15 @@ pub fn digests_match(refusal: Refusal, words: u32, first: &[u32], second: &[u32]
     Failure::Refused(refusal, figures)
 }
 
+fn widths(message: &Message) -> &'static str {
+    match message {
+        Message::Bytes(_) => WIDTHS_FOR_BYTES,
+        Message::Words(_) => WIDTHS,
+    }
+}
+
 fn width_figures(width: u32, widths: &str) -> String {
-    format!("width {}; {widths}", thousands(width))
+    format!("the width is {}; it must be {widths}", thousands(width))
 }
 
 fn kept_figures(kept: u32, width: u32) -> String {
@@ -147,20 +161,30 @@ fn count_figures(words: u32) -> String {
 }
 
 fn long_figures(message: &Message, settings: Settings) -> String {
-    let bound = match message {
-        Message::Bytes(bytes) if bytes.len() == MOST_BYTES => "at least ",
-        _ => "",
+    match message {
+        Message::Bytes(bytes) => most_bytes(bytes.len(), settings.width),
+        Message::Words(words) => most_words(words.len()),
+    }
+}
+
+/// The closing byte has a place in the last word that may be there.
+fn most_bytes(bytes: usize, width: u32) -> String {
+    let bound = match bytes == MOST_BYTES {
+        true => "at least ",
+        false => "",
     };
-    most_words(bound, message.words(settings))
+    let most = MOST_MESSAGE_WORDS * (width as usize / 8) - 1;
+    let figures = at_most(bytes, "bytes", most);
+    format!("{bound}{figures} at width {width}")
 }
 
-fn most_words(bound: &str, words: usize) -> String {
-    at_most(bound, words, "message words", MOST_MESSAGE_WORDS)
+fn most_words(words: usize) -> String {
+    at_most(words, "message words", MOST_MESSAGE_WORDS)
 }
 
-fn at_most(bound: &str, number: usize, things: &str, most: usize) -> String {
+fn at_most(number: usize, things: &str, most: usize) -> String {
     let (number, most) = (thousands(number), thousands(most));
-    format!("{bound}{number} {things}; at most {most}")
+    format!("{number} {things}; at most {most}")
 }
 
 fn key_figures(message_words: usize, digest_words: u32, key_words: usize) -> String {

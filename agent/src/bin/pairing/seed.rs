@@ -18,7 +18,9 @@ macro_rules! seed_help {
                a number, or an array of 1 to 8 numbers with commas between them;
                '5,' is the array of the one number 5, which is not the seed 5;
                @FILE takes the seed from a file, and @- from standard input:
-               unlike an argument, those show in no list of processes
+               unlike an argument, those show in no list of processes; there
+               an array may also stand without commas, with spaces or one
+               number to a line, but a number that stands alone is a plain seed
 "
         )
     };
@@ -91,17 +93,23 @@ fn of_argument(text: &str) -> Result<Seed, Failure> {
     let taken = parts.take(text);
     taken.map_err(|why| usage(format!("--seed: {why}")))?;
     let seed = parts.seed();
-    seed.map_err(|why| usage(format!("--seed: '{}' {why}", shown(text))))
+    seed.map_err(|why| usage(format!("--seed: '{}' {why} commas between", shown(text))))
 }
 
-/// White space may stand around the numbers and commas of a file.
+/// White space may stand around the numbers and commas of a file, or in the place of all commas.
 fn of_file(file: &OsStr) -> Result<Seed, Failure> {
     let mut parts = Parts::default();
     input::lines(file, |line| {
         input::words(line, char::is_whitespace).try_for_each(|text| parts.take(text))
     })?;
+    if parts.commas == 0 && parts.numbers.len() > 1 {
+        return Ok(Seed::Array(parts.numbers));
+    }
     let seed = parts.seed();
-    seed.map_err(|why| content(format!("{} {why}", input::name(file))))
+    seed.map_err(|why| {
+        let name = input::name(file);
+        content(format!("{name} {why} commas between, or with none"))
+    })
 }
 
 /// What has been taken of a seed's text.
@@ -132,11 +140,12 @@ impl Parts {
         Ok(())
     }
 
-    /// The seed: one number is a plain one, a comma makes an array.
+    /// The seed: one number is a plain one, a comma makes an array. What is wrong ends before how
+    /// several numbers stand.
     fn seed(self) -> Result<Seed, String> {
         match (self.out_of_turn, &self.numbers[..], self.commas) {
             (true, ..) | (_, [], 0) => Err(format!(
-                "holds {} and {}; a seed is one number, or several with commas between",
+                "holds {} and {}; a seed is one number, or several with",
                 counted(self.numbers.len(), "number"),
                 counted(self.commas, "comma")
             )),

@@ -3,6 +3,7 @@
 use crate::args::{self, Args};
 use crate::ending::{Answer, Failure};
 use crate::refused;
+use crate::rule::rule_help;
 use crate::seed::{seed_help, Source};
 
 pub const HELP: &str = concat!(
@@ -20,6 +21,10 @@ Prints a word a line, as 0x and eight hexadecimal digits: a file for --key.
 The counts over all keys are proved for keys of t + n words drawn uniformly, for a
 message of t words and a digest of n; a stretched key is one of at most 2^32, from
 arrays of k words one of at most 2^(32*k), and no count is proved for those.
+",
+    rule_help!(),
+    "MT19937 is no cryptographic generator, and need not be one: the key is public once
+the digest is made, and is used for no other.
 "
 );
 
