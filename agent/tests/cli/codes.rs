@@ -124,7 +124,7 @@ fn at_width<'a>(w: &'a str, digits: &'a str) -> [&'a str; 8] {
 #[test]
 fn refusals_of_settings() {
     for (w, shown) in [("0", "0"), ("33", "33"), ("0xffffffff", "4,294,967,295")] {
-        let figures = format!("width {shown}; 1 to 32");
+        let figures = format!("the width is {shown}; it must be 1 to 32");
         refused(Refusal::Width, &figures, &at_width(w, "6"), b"1");
         // Width comes before Digits.
         refused(Refusal::Width, &figures, &at_width(w, "0"), b"1");

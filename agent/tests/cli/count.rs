@@ -167,9 +167,31 @@ fn pictures_of_every_small_width() {
     }
 }
 
+/// Every other width ends alike, with the command's own limit and what stands against it.
 #[test]
-fn a_count_too_wide_says_what_it_would_cost() {
-    for (w, cost) in [("11", "2^33"), ("16", "2^48"), ("32", "2^96")] {
-        bad_usage(cost, &["count", "--width", w], b"");
+fn a_width_that_is_not_counted() {
+    let no_word = "a word has 1 to 32 bits";
+    for (w, shown, why) in [
+        ("0", "0", no_word),
+        (
+            "11",
+            "11",
+            "every message under every key makes 2^33 digests",
+        ),
+        (
+            "16",
+            "16",
+            "every message under every key makes 2^48 digests",
+        ),
+        (
+            "32",
+            "32",
+            "every message under every key makes 2^96 digests",
+        ),
+        ("33", "33", no_word),
+        ("4294967295", "4,294,967,295", no_word),
+    ] {
+        let why = format!("width {shown} is not counted, only widths 1 to 10 are: {why}");
+        bad_usage(&why, &["count", "--width", w], b"");
     }
 }

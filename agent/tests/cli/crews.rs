@@ -78,7 +78,11 @@ fn keys<const N: usize>(name: &str, rows: [&str; N]) -> [Scratch; N] {
 fn refusals_of_settings() {
     let two = keys("crew-two", ["1 2", "3 4"]);
     for (option, refusal, figures) in [
-        ("--width=33", Refusal::Width, "width 33; 1 to 32"),
+        (
+            "--width=33",
+            Refusal::Width,
+            "the width is 33; it must be 1 to 32",
+        ),
         (
             "--kept=0",
             Refusal::Kept,
@@ -109,7 +113,12 @@ fn refusals_of_settings() {
     // Before a key is stretched, the settings and the message are tested.
     let row = Scratch::new("crew-refused-seeds", "7 8");
     let args = ["crew", "--width", "0", "--seeds", row.path(), "-"];
-    refused(Refusal::Width, "width 0; 1 to 32", &args, b"5");
+    refused(
+        Refusal::Width,
+        "the width is 0; it must be 1 to 32",
+        &args,
+        b"5",
+    );
     let args = ["crew", "--seeds", row.path(), "-"];
     let figures = "65,537 message words; at most 65,536";
     refused(Refusal::Long, figures, &args, long.as_bytes());

@@ -31,6 +31,9 @@ fn files_that_cannot_be_read_or_written() {
                 "1",
             ],
             &["match", "--words", "1", "0x1", &at_file],
+            &["words", file],
+            &["code", "--seed", "1", "--label", file],
+            &["crew", "--seeds", "-", "--label", file],
         ] {
             no_access(&reading, args, b"");
         }
@@ -75,18 +78,21 @@ fn files_of_any_name() {
 
 #[test]
 fn files_that_hold_no_text() {
-    bad_content("standard input holds no text", &WORDS, b"1 \xff 2");
+    let to_digest = "holds no text; bytes of any kind go to 'pairing digest'";
+    let why = format!("standard input {to_digest}\n");
+    bad_content(&why, &WORDS, b"1 \xff 2");
     let large = vec![b' '; 20_000_000];
-    bad_content("standard input is too large to read", &WORDS, &large);
+    let why = "standard input is too large to read: at most 16,777,215 bytes are\n";
+    bad_content(why, &WORDS, &large);
     let file = Scratch::new("no-text", b"\xc3(");
-    let why = format!("'{}' holds no text", file.path());
+    let why = format!("'{}' {to_digest}", file.path());
     bad_content(&why, &["digest", "--key", file.path(), "-"], b"");
     bad_content(&why, &["match", "--words", "1", "0x1", &file.at()], b"");
 }
 
 #[test]
 fn a_bad_number_is_told_with_its_line() {
-    let decimal = "is no number: write decimal, or 0x and hexadecimal digits\n";
+    let decimal = "is no number: write decimal, or 0x and hexadecimal digits";
     for (text, line, why) in [
         ("1\n2\nx12\n4", 3, format!("'x12' {decimal}")),
         ("1\r\n2\r\nx12\r\n", 3, format!("'x12' {decimal}")),

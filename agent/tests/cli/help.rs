@@ -4,7 +4,7 @@ use crate::run::accepted;
 use pairing_agent::{MOST_CODE_DIGITS, MOST_DIGEST_WORDS, MOST_KEY_WORDS};
 use pairing_agent::{MOST_MESSAGE_WORDS, MOST_PEERS, MOST_SEED_WORDS};
 
-const COMMANDS: [(&str, &[&str]); 9] = [
+const COMMANDS: [(&str, &[&str]); 10] = [
     (
         "digest",
         &["--width", "--kept", "--words", "--seed", "--key"],
@@ -13,8 +13,15 @@ const COMMANDS: [(&str, &[&str]); 9] = [
         "digest-words",
         &["--width", "--kept", "--words", "--seed", "--key"],
     ),
-    ("code", &["--width", "--digits", "--seed", "--key"]),
-    ("crew", &["--width", "--kept", "--words", "--seeds"]),
+    (
+        "code",
+        &["--width", "--digits", "--seed", "--key", "--label"],
+    ),
+    (
+        "crew",
+        &["--width", "--kept", "--words", "--seeds", "--label"],
+    ),
+    ("words", &["--width"]),
     ("stretch", &["--width", "--seed"]),
     ("load", &["--width", "--seed", "--key-to", "--message-to"]),
     ("match", &["--words"]),
@@ -64,7 +71,7 @@ fn help_tells_the_statuses_apart() {
         .lines()
         .map(|line| line.split_whitespace().next().unwrap())
         .collect();
-    assert_eq!(given, ["0", "1", "2", "64", "65", "74"]);
+    assert_eq!(given, ["0", "1", "2", "64", "65", "74", "141"]);
 }
 
 #[test]
@@ -76,8 +83,8 @@ fn help_has_the_limits_and_what_is_proved() {
     let code = accepted(&["code", "--help"], b"");
     let digits = format!("digits of the code, 1 to {MOST_CODE_DIGITS},");
     assert!(code.contains(&digits), "{code}");
-    let proved = "This is proved for keys drawn uniformly, and not for stretched ones.\n";
-    assert!(code.ends_with(&format!("\ndown. {proved}")), "{code}");
+    let proved = "This is proved for keys drawn uniformly, and not for stretched ones.";
+    assert!(code.contains(&format!("\ndown. {proved}")), "{code}");
 
     let crew = accepted(&["crew", "--help"], b"");
     let peers = format!("message; 1 to {MOST_PEERS} of them\n");
@@ -113,6 +120,31 @@ fn help_has_both_kinds_of_seeds() {
         let text = accepted(&[command, "--help"], b"");
         let takes_a_seed = options.contains(&"--seed");
         assert_eq!(text.contains(&array), takes_a_seed, "{text}");
+    }
+}
+
+/// One text, wherever a key for a pairing is taken or made.
+#[test]
+fn help_has_the_rule_that_makes_a_pairing_safe() {
+    for (command, _) in COMMANDS {
+        let text = accepted(&[command, "--help"], b"");
+        let rule = text.split_once("\nThe rule that makes a pairing safe:\n");
+        let takes_a_key = ["digest", "digest-words", "code", "crew", "stretch"];
+        assert_eq!(rule.is_some(), takes_a_key.contains(&command), "{text}");
+        let Some((_, rule)) = rule else {
+            continue;
+        };
+        let parts: Vec<_> = rule.lines().take(4).map(str::trim).collect();
+        let due = [
+            "Draw the key after both labels are fixed.",
+            "Keep it secret until then.",
+            "Use it once.",
+            "Every retry is another chance for a wrong label.",
+        ];
+        assert_eq!(parts, due, "{command}");
+        let generator = "MT19937 is no cryptographic generator, and need not be one: the key is \
+                         public once\nthe digest is made";
+        assert_eq!(rule.contains(generator), command == "stretch", "{rule}");
     }
 }
 

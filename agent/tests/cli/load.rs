@@ -126,7 +126,7 @@ fn refusals_of_a_width() {
         ("33", "--width=33 --seed=1,2"),
         ("33", "--seed=, --width=33"),
     ] {
-        let figures = format!("width {w}; 1 to 32");
+        let figures = format!("the width is {w}; it must be 1 to 32");
         for counts in [["2", "1"], ["65545", "1"], [MOST, MOST]] {
             refused_load(Refusal::Width, &figures, options, counts);
         }
@@ -182,7 +182,7 @@ fn rows_that_cannot_be_written() {
         // No words need no room.
         accepted(&load(&["--seed", "1"], files, ["0", "0"]), b"");
     }
-    // What is printed comes last, so that it stands for a whole load.
+    // What is printed comes after all that can fail before a file is replaced.
     for files in [["no/such/file", "-"], ["-", "no/such/file"]] {
         let run = pairing(&load(&["--seed", "1"], files, ["2", "1"]));
         assert_eq!((run.status, run.out.as_str()), (74, ""), "{}", run.err);

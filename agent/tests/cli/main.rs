@@ -17,3 +17,5 @@ mod run;
 mod seeds;
 mod stretch;
 mod usage;
+mod whole;
+mod words;

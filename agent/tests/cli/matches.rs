@@ -35,6 +35,30 @@ fn digests_match() {
     );
 }
 
+/// A file without `@`, or what looks like one.
+#[test]
+fn a_file_is_named_after_a_sign() {
+    let file = Scratch::new("sent.digest", "000000ac\n");
+    for name in [file.path(), "no/such.digest", "sent.digest", "-"] {
+        let why = format!(
+            "; for a file write @{}",
+            name.chars().take(40).collect::<String>()
+        );
+        for operands in [[name, "0xac"], ["0xac", name]] {
+            bad_usage(
+                &why,
+                &[&["match", "--words=1"], &operands[..]].concat(),
+                b"",
+            );
+        }
+    }
+    let args = ["match", "--words=1", &file.at(), "0xac"];
+    assert_eq!(accepted(&args, b""), "match\n");
+    // What can only be a number is not taken for a file.
+    let run = pairing(&["match", "--words=1", "172", "0xac"]);
+    assert!(!run.err.contains("for a file"), "{}", run.err);
+}
+
 #[test]
 fn match_takes_no_decimal_words() {
     for word in [

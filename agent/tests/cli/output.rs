@@ -1,10 +1,10 @@
 //! Output that cannot be written, input that cannot be read, and the statuses of both.
 
-use crate::run::{no_access, redirected, Scratch, PROGRAM};
-use std::process::{Command, Stdio};
+use crate::run::{no_access, redirected, run, unread, Scratch, PROGRAM};
+use std::process::Command;
 
 /// Runs that print something.
-const PRINTING: [&[&str]; 7] = [
+const PRINTING: [&[&str]; 10] = [
     &["--help"],
     &["--version"],
     &["help", "digest"],
@@ -17,6 +17,9 @@ const PRINTING: [&[&str]; 7] = [
         "2",
         "1",
     ],
+    &["words", "/dev/null"],
+    &["count", "--width", "2"],
+    &["explain", "5"],
     &["match", "--words", "1", "0x1", "0x1"],
     &["match", "--words", "1", "0x1", "0x2"],
 ];
@@ -53,20 +56,17 @@ fn a_full_or_unwritable_output_is_a_failure() {
 }
 
 #[test]
-fn a_closed_pipe_is_a_failure() {
-    let mut child = Command::new(PROGRAM)
-        .args(["stretch", "--seed", "1", "65544"])
-        .stdout(Stdio::piped())
-        .stderr(Stdio::piped())
-        .spawn()
-        .expect("pairing starts");
-    drop(child.stdout.take());
-    let output = child.wait_with_output().expect("pairing ends");
-    assert_eq!(output.status.code(), Some(74));
-    assert_eq!(
-        String::from_utf8(output.stderr).unwrap(),
-        "pairing: cannot write standard output: Broken pipe (os error 32)\n"
-    );
+fn a_reader_that_left_is_no_matter() {
+    for args in PRINTING {
+        unread(args);
+    }
+    // One that leaves in the middle.
+    let mut shell = Command::new("bash");
+    let script = "\"$0\" \"$@\" | head -n 1; echo ${PIPESTATUS[0]}";
+    shell.args(["-c", script, PROGRAM]);
+    let ended = run(shell.args(["stretch", "--seed", "5489", "65544"]), b"");
+    assert_eq!(ended.err, "");
+    assert_eq!(ended.out, "0xd091bb5c\n141\n");
 }
 
 #[test]
@@ -85,8 +85,10 @@ fn a_null_output_is_no_failure() {
         ">>/dev/null",
         "<&- >/dev/null",
     ] {
-        for (args, status) in PRINTING.into_iter().zip([0, 0, 0, 0, 0, 0, 1]) {
+        for (place, args) in (1..).zip(PRINTING) {
             let run = redirected(redirections, args);
+            // The last is no match.
+            let status = i32::from(place == PRINTING.len());
             let ended = (run.status, run.err.as_str());
             assert_eq!(ended, (status, ""), "{redirections}, {args:?}");
         }

@@ -12,7 +12,7 @@ fn refusals_of_settings() {
     for (command, widths) in [("digest", "8, 16 or 32"), ("digest-words", "1 to 32")] {
         let with = |more: &[&'static str]| [&[command, "--seed", "1", "-"], more].concat();
         for (w, shown) in [("0", "0"), ("33", "33"), ("0xffffffff", MOST_SHOWN)] {
-            let figures = format!("width {shown}; {widths}");
+            let figures = format!("the width is {shown}; it must be {widths}");
             refused(Refusal::Width, &figures, &with(&["--width", w]), b"");
         }
         for (w, b, shown) in [
@@ -32,23 +32,33 @@ fn refusals_of_settings() {
         }
         // The first test that holds is the answer.
         let args = with(&["--width", "0", "--kept", "0"]);
-        refused(Refusal::Width, &format!("width 0; {widths}"), &args, b"");
+        let figures = format!("the width is 0; it must be {widths}");
+        refused(Refusal::Width, &figures, &args, b"");
         let args = with(&["--kept", "0", "--words", "0"]);
         let figures = "0 bits kept; 1 to 32 at width 32";
         refused(Refusal::Kept, figures, &args, b"");
     }
     for w in ["1", "7", "9", "15", "17", "24", "31"] {
         let args = ["digest", "--width", w, "--seed", "1", "-"];
-        let figures = format!("width {w}; 8, 16 or 32");
+        let figures = format!("the width is {w}; it must be 8, 16 or 32");
         refused(Refusal::Width, &figures, &args, b"abc");
     }
 }
 
 #[test]
 fn refusals_of_a_length() {
-    let figures = "65,537 message words; at most 65,536";
     // The closing byte is the last of 65,536 words.
-    for (w, most) in [("8", 65_535), ("16", 131_071), ("32", 262_143)] {
+    for (w, most, figures) in [
+        ("8", 65_535, "65,536 bytes; at most 65,535 at width 8"),
+        ("16", 131_071, "131,072 bytes; at most 131,071 at width 16"),
+        ("32", 262_143, "262,144 bytes; at most 262,143 at width 32"),
+    ] {
+        refused(
+            Refusal::Long,
+            figures,
+            &["words", "--width", w, "-"],
+            &vec![7; most + 1],
+        );
         for n in ["1", "8"] {
             let args = ["digest", "--width", w, "--words", n, "--seed", "1", "-"];
             let digest = accepted(&args, &vec![7; most]);
@@ -56,6 +66,7 @@ fn refusals_of_a_length() {
             refused(Refusal::Long, figures, &args, &vec![7; most + 1]);
         }
     }
+    let figures = "65,537 message words; at most 65,536";
     let words = ["digest-words", "--width", "3", "--words", "8"];
     let args = [&words[..], &["--seed", "1", "-"]].concat();
     accepted(&args, "7 ".repeat(65_536).as_bytes());
@@ -69,18 +80,14 @@ fn refusals_of_a_length() {
 
 #[test]
 fn a_message_longer_than_is_read() {
-    // 2^24 bytes are read. They fill words, so the closing byte makes one more.
-    for (w, words) in [
-        ("8", "16,777,217"),
-        ("16", "8,388,609"),
-        ("32", "4,194,305"),
-    ] {
-        let figures = format!("at least {words} message words; at most 65,536");
+    // 2^24 bytes are read.
+    for (w, most) in [("8", "65,535"), ("16", "131,071"), ("32", "262,143")] {
+        let figures = format!("at least 16,777,216 bytes; at most {most} at width {w}");
         let args = ["digest", "--width", w, "--seed", "1", "-"];
         refused(Refusal::Long, &figures, &args, &vec![7; 20_000_000]);
     }
     // One byte less is a length that is known.
-    let figures = "16,777,216 message words; at most 65,536";
+    let figures = "16,777,215 bytes; at most 65,535 at width 8";
     let args = ["digest", "--width", "8", "--seed", "1", "-"];
     refused(Refusal::Long, figures, &args, &vec![7; (1 << 24) - 1]);
 }
@@ -166,7 +173,7 @@ fn refusals_of_the_first_word_too_large() {
 fn refusals_of_a_stretch() {
     for w in ["0", "33"] {
         let args = ["stretch", "--width", w, "--seed", "1", "4"];
-        let figures = format!("width {w}; 1 to 32");
+        let figures = format!("the width is {w}; it must be 1 to 32");
         refused(Refusal::Width, &figures, &args, b"");
     }
     for (count, shown) in [("65545", "65,545"), (MOST, MOST_SHOWN)] {
@@ -174,7 +181,12 @@ fn refusals_of_a_stretch() {
         let args = ["stretch", "--seed", "1", count];
         refused(Refusal::Long, &figures, &args, b"");
         let args = ["stretch", "--width", "0", "--seed", "1", count];
-        refused(Refusal::Width, "width 0; 1 to 32", &args, b"");
+        refused(
+            Refusal::Width,
+            "the width is 0; it must be 1 to 32",
+            &args,
+            b"",
+        );
     }
 }
 
@@ -211,9 +223,21 @@ fn refusals_of_a_seed() {
 fn width_and_digits_come_before_a_seed() {
     for seed in [",", "1,2,3,4,5,6,7,8,9"] {
         for (refusal, figures, args) in [
-            (Refusal::Width, "width 24; 8, 16 or 32", "digest --width=24"),
-            (Refusal::Width, "width 0; 1 to 32", "digest-words --width=0"),
-            (Refusal::Width, "width 0; 1 to 32", "code --width=0"),
+            (
+                Refusal::Width,
+                "the width is 24; it must be 8, 16 or 32",
+                "digest --width=24",
+            ),
+            (
+                Refusal::Width,
+                "the width is 0; it must be 1 to 32",
+                "digest-words --width=0",
+            ),
+            (
+                Refusal::Width,
+                "the width is 0; it must be 1 to 32",
+                "code --width=0",
+            ),
             (
                 Refusal::Digits,
                 "0 digits; 1 to 9 at width 32",
@@ -225,7 +249,12 @@ fn width_and_digits_come_before_a_seed() {
             refused(refusal, figures, &args, b"1");
         }
         let args = ["stretch", "--width", "33", "--seed", seed, "4"];
-        refused(Refusal::Width, "width 33; 1 to 32", &args, b"");
+        refused(
+            Refusal::Width,
+            "the width is 33; it must be 1 to 32",
+            &args,
+            b"",
+        );
     }
 }
 
@@ -245,13 +274,5 @@ fn refusals_of_a_match() {
         let figures = format!("rows of {rows}; each must have 2");
         let args = ["match", "--words", "2", first, second];
         refused(Refusal::Tray, &figures, &args, b"0x1,0x2");
-    }
-}
-
-#[test]
-fn refusals_of_a_count() {
-    for (w, shown) in [("0", "0"), ("33", "33"), (MOST, MOST_SHOWN)] {
-        let figures = format!("width {shown}; 1 to 32");
-        refused(Refusal::Width, &figures, &["count", "--width", w], b"");
     }
 }

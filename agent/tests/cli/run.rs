@@ -3,6 +3,8 @@
 use pairing_agent::Refusal;
 use std::fs;
 use std::io::Write;
+use std::os::fd::OwnedFd;
+use std::os::unix::net::UnixStream;
 use std::path::PathBuf;
 use std::process::{Command, Stdio};
 
@@ -91,6 +93,67 @@ pub fn bad_content(text: &str, args: &[&str], input: &[u8]) {
 /// Checks that a file cannot be read or written.
 pub fn no_access(text: &str, args: &[&str], input: &[u8]) {
     failed(74, text, args, input);
+}
+
+/// Checks that the run ends quietly where nobody reads what it prints.
+pub fn unread(args: &[&str]) {
+    // The reader has left before the run starts.
+    let (reader, output) = UnixStream::pair().expect("two sockets");
+    drop(reader);
+    let ended = Command::new(PROGRAM)
+        .args(args)
+        .stdin(Stdio::null())
+        .stdout(OwnedFd::from(output))
+        .output()
+        .expect("pairing ends");
+    let err = String::from_utf8(ended.stderr).unwrap();
+    assert_eq!(
+        (ended.status.code(), err.as_str()),
+        (Some(141), ""),
+        "{args:?}"
+    );
+}
+
+/// A folder of one test's own.
+pub struct Folder(PathBuf);
+
+impl Folder {
+    pub fn new(name: &str) -> Folder {
+        let path = PathBuf::from(env!("CARGO_TARGET_TMPDIR")).join(format!("cli-{name}"));
+        // A run that was ended may have left it.
+        let _ = fs::remove_dir_all(&path);
+        fs::create_dir(&path).expect("the folder is made");
+        Folder(path)
+    }
+
+    /// The path of a file in it.
+    pub fn path(&self, name: &str) -> String {
+        format!("{}/{name}", self.0.to_str().unwrap())
+    }
+
+    pub fn write(&self, name: &str, content: &str) {
+        fs::write(self.path(name), content).expect("the file is written");
+    }
+
+    pub fn read(&self, name: &str) -> String {
+        fs::read_to_string(self.path(name)).expect("the file is read")
+    }
+
+    /// The names of all files in it.
+    pub fn listing(&self) -> Vec<String> {
+        let files = fs::read_dir(&self.0).expect("the folder is read");
+        let mut names: Vec<_> = files
+            .map(|file| file.unwrap().file_name().into_string().unwrap())
+            .collect();
+        names.sort();
+        names
+    }
+}
+
+impl Drop for Folder {
+    fn drop(&mut self) {
+        let _ = fs::remove_dir_all(&self.0);
+    }
 }
 
 /// A file of one test's own.

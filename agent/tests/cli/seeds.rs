@@ -1,6 +1,8 @@
 //! Seeds: the keys that they stand for, and where they come from.
 
-use crate::run::{accepted, bad_content, bad_usage, no_access, Scratch};
+use crate::run::{accepted, bad_content, bad_usage, no_access, refused, run, Scratch, PROGRAM};
+use pairing_agent::Refusal;
+use std::process::Command;
 
 #[test]
 fn a_seed_stands_for_its_stretched_key() {
@@ -115,6 +117,62 @@ fn arrays_from_an_argument_a_file_and_standard_input() {
     }
 }
 
+/// In a file several numbers are an array without commas too, as `od` writes them; a number that
+/// stands alone is a plain seed.
+#[test]
+fn arrays_without_commas() {
+    let message = Scratch::new("spaces-message", "1 2 3");
+    let by = |seed: &str, input: &[u8]| {
+        with_seed(seed, message.path()).map(|args| accepted(&args, input))
+    };
+    for (array, texts) in [
+        ("5489", &["5489", "       5489\n", "\n5489\n\n"][..]),
+        ("1,2", &["1 2", "1\n2\n", "\t1\r\n\r\n2\r\n", "\u{feff}1\n2"]),
+        ("291,564,837,1110", &["0x123 564\n0x345 1110", "291\n564\n837\n1110\n"]),
+        (
+            "1,2,3,4,5,6,7,4294967295",
+            &["          1          2          3          4\n          5          6          7 4294967295\n"],
+        ),
+    ] {
+        let due = by(array, b"");
+        for text in texts {
+            let file = Scratch::new("spaces", text);
+            assert_eq!(by(&file.at(), b""), due, "{text:?}");
+            assert_eq!(by("@-", text.as_bytes()), due, "{text:?}");
+        }
+    }
+    // Nine are too many, with commas and without.
+    for text in ["1 2 3 4 5 6 7 8 9", "1\n2\n3\n4\n5\n6\n7\n8\n9\n"] {
+        for args in with_seed("@-", message.path()) {
+            refused(
+                Refusal::Seed,
+                "9 seed words; 1 to 8",
+                &args,
+                text.as_bytes(),
+            );
+        }
+    }
+}
+
+/// `od` itself.
+#[test]
+fn an_array_as_od_writes_it() {
+    let bytes: Vec<u8> = (1..=32).collect();
+    let file = Scratch::new("od-bytes", bytes);
+    let script = "od -An -v -N32 -tu4 \"$1\" | \"$0\" stretch --seed @- 3";
+    let mut shell = Command::new("sh");
+    let run = run(shell.args(["-c", script, PROGRAM, file.path()]), b"");
+    assert_eq!((run.status, run.err.as_str()), (0, ""));
+    let words =
+        (0..8u32).map(|word| u32::from_le_bytes([1, 2, 3, 4].map(|byte| (4 * word) as u8 + byte)));
+    let words: Vec<_> = words.map(|word| word.to_string()).collect();
+    let args = ["stretch", "--seed", &words.join(","), "3"];
+    // `od` writes the words as this machine has them.
+    if cfg!(target_endian = "little") {
+        assert_eq!(run.out, accepted(&args, b""));
+    }
+}
+
 /// The same key by way of a file, for every size of an array.
 #[test]
 fn an_array_stands_for_its_stretched_key() {
@@ -136,15 +194,13 @@ fn an_array_stands_for_its_stretched_key() {
 fn texts_that_are_no_seed() {
     let message = Scratch::new("one-seed-message", "1 2 3");
     let held = |numbers: &str, commas: &str| {
-        let seed = "a seed is one number, or several with commas between";
+        let seed = "a seed is one number, or several with commas between, or with none";
         format!(" holds {numbers} and {commas}; {seed}\n")
     };
     for (text, why) in [
         ("", held("0 numbers", "0 commas")),
         (" \n\r\n", held("0 numbers", "0 commas")),
         ("\u{feff}", held("0 numbers", "0 commas")),
-        ("1 2", held("2 numbers", "0 commas")),
-        ("1\n2\n3\n", held("3 numbers", "0 commas")),
         ("1, 2 3", held("3 numbers", "1 comma")),
         ("1 2, 3,", held("3 numbers", "2 commas")),
         ("1,,2", held("2 numbers", "2 commas")),

@@ -50,6 +50,7 @@ fn bad_numbers() {
         bad_usage(&shown, &["match", "--words", number, "0x1", "0x1"], b"");
         bad_usage(&shown, &["count", "--width", number], b"");
         bad_usage(&shown, &["explain", "--", number], b"");
+        bad_usage(&shown, &["words", "--width", number, "-"], b"");
         if !number.is_empty() {
             let row = format!("1 {number} 2");
             let key = Scratch::new("key-bad-number", &row);
@@ -68,7 +69,7 @@ fn bad_commands() {
     bad_usage("?[31m is no command;", &["\x1b[31m"], b"");
     // A near miss names the command.
     for (name, command) in [
-        ("words", "digest-words"),
+        ("digest-word", "digest-words"),
         ("digest_words", "digest-words"),
         ("Match", "match"),
         ("CODE", "code"),
@@ -106,8 +107,20 @@ fn bad_arguments() {
             "digest-words --digits 6 --seed 1 -",
         ),
         ("--seed or --key is missing", "code -"),
-        ("FILE is missing", "code --seed 1"),
-        ("FILE is missing", "crew"),
+        ("FILE or --label is missing", "code --seed 1"),
+        ("2 is one argument too many", "code --seed 1 - 2"),
+        ("only one of FILE and --label", "code --seed 1 --label f -"),
+        (
+            "only one of message, seed and key can be",
+            "code --key - --label -",
+        ),
+        ("FILE or --label is missing", "crew"),
+        ("KEY or --seeds is missing", "crew --label -"),
+        ("only one of --seeds and KEY", "crew --seeds f --label f k"),
+        ("only one of message, seeds and keys", "crew --label - -"),
+        ("FILE is missing", "words"),
+        ("- is one argument too many", "words - -"),
+        ("--seed is no option", "words --seed 1 -"),
         ("KEY or --seeds is missing", "crew -"),
         ("--seed is no option", "crew --seed 1 -"),
         ("only one of --seeds and KEY", "crew --seeds f - k"),
@@ -139,7 +152,7 @@ fn bad_arguments() {
         ),
         ("--width is missing", "count"),
         ("3 is one argument too many", "count --width 2 3"),
-        ("NUMBER is missing", "explain"),
+        ("ANSWER is missing", "explain"),
         ("nosuch is no command", "help nosuch"),
         ("extra is one argument too many", "help digest extra"),
         ("extra is one argument too many", "--version extra"),
@@ -163,6 +176,8 @@ fn wrong_usage_says_where_the_help_is() {
         ("pairing stretch", &["stretch", "--seed", "1,,2", "3"]),
         ("pairing load", &["load", "--seed", "1"]),
         ("pairing match", &["match", "--words=1", "172", "0x1"]),
+        ("pairing count", &["count", "--width", "11"]),
+        ("pairing words", &["words"]),
     ] {
         let run = pairing(args);
         let end = format!("; see '{command} --help'\n");

@@ -28,7 +28,8 @@ in front included: in groups of three, but four at the end as two and two.
 
 Two different messages of t words have one code under at most
 (2F + 1)*2^(W*t + 1) of all keys of t + 1 words, F being (2^W - 1) / 10^D rounded
-down. This is proved for keys drawn uniformly, and not for stretched ones.
+down. This is proved for keys drawn uniformly, and not for stretched ones. Of two
+labels it holds where both make t words.
 ",
     rule_help!()
 );

@@ -51,6 +51,7 @@ pub fn run(args: Args) -> Result<Answer, Failure> {
     let text = count.summary() + "\n" + &histogram::draw(&count.pairs_at);
     match args.value("--svg") {
         None => outputs.write(&[&text])?,
+        // Where standard output has the picture, there is no place for the text.
         Some(_) => outputs.write(&[&picture::draw(&count), &text])?,
     }
     Ok(Answer::accepted(""))

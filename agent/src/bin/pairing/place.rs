@@ -29,9 +29,7 @@ pub fn named(name: &OsStr) -> io::Result<Place> {
         Ok(found) if found.is_file() => Ok(old(name, found)),
         Ok(_) => Ok(Place::AsItIs(name.into())),
         Err(error) if error.kind() == io::ErrorKind::NotFound => {
-            let path = end_of_links(name.into())?;
-            folder(&path)?;
-            Ok(Place::New(path))
+            new_file(name, error).map(|(path, _)| Place::New(path))
         }
         Err(error) => Err(error),
     }
@@ -74,9 +72,7 @@ fn identity(name: &OsStr) -> io::Result<Identity> {
     }
     match fs::metadata(name) {
         Err(error) if error.kind() == io::ErrorKind::NotFound => {
-            let path = end_of_links(name.into())?;
-            let (_, last) = split(&path);
-            Ok(Identity::New(Box::new(folder(&path)?), last.into()))
+            new_file(name, error).map(|(_, identity)| identity)
         }
         found => found.map(|file| of(&file)),
     }
@@ -105,13 +101,17 @@ fn end_of_links(mut path: PathBuf) -> io::Result<PathBuf> {
     ))
 }
 
-/// The folder of a file that is not there yet.
-fn folder(path: &Path) -> io::Result<Identity> {
-    let (folder, name) = split(path);
-    let found = fs::metadata(folder)?;
-    match name.as_bytes() {
-        b"" | b"." | b".." => Err(io::ErrorKind::NotFound.into()),
-        _ => Ok(of(&found)),
+/// The path of a file that is missing and can be made, and what will tell it apart.
+fn new_file(name: &OsStr, missing: io::Error) -> io::Result<(PathBuf, Identity)> {
+    let path = end_of_links(name.into())?;
+    let (folder, last) = split(&path);
+    let folder = of(&fs::metadata(folder)?);
+    match last.as_bytes() {
+        b"" | b"." | b".." => Err(missing),
+        _ => {
+            let identity = Identity::New(Box::new(folder), last.into());
+            Ok((path, identity))
+        }
     }
 }
 

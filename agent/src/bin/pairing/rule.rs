@@ -9,8 +9,7 @@ The rule that makes a pairing safe:
   Keep it secret until then.
   Use it once.
   Every retry is another chance for a wrong label.
-Who knows the key before can find a second label with the same digest. Once the
-digest is made, the key may be public.
+Whoever knows the key before that can find a second label with the same digest.
 "
     };
 }
