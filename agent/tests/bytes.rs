@@ -361,3 +361,49 @@ fn settings_count_as_the_library_does() {
         }
     }
 }
+
+/// The words of the settings are those of the independent implementation.
+#[test]
+fn closed_words_are_those_of_the_paper() {
+    let mut random = Random::new(30);
+    for w in WIDTHS_OF_BYTES {
+        for length in lengths(w) {
+            let mut bytes: Vec<u8> = (0..length).map(|_| random.byte()).collect();
+            // Endings that look like the closing.
+            for end in [&[][..], &[0x80], &[0x80, 0], &[0, 0, 0, 0]] {
+                let kept = length.saturating_sub(end.len());
+                bytes.truncate(kept);
+                bytes.extend(&end[..length - kept]);
+                let words = settings(w, w, 1).closed_words(&bytes);
+                assert!(words == words_of_bytes(w, &bytes), "w {w}, {length} bytes");
+                let counted = settings(w, w, 1).words_of_bytes(length);
+                assert_eq!(words.len(), counted, "w {w}, {length} bytes");
+            }
+        }
+    }
+    // No bytes fill the words of another width.
+    for w in (0..=40).filter(|w| !WIDTHS_OF_BYTES.contains(w)) {
+        assert_eq!(settings(w, 1, 1).closed_words(b"label"), [], "w {w}");
+    }
+}
+
+/// Their digest is the digest of the bytes.
+#[test]
+fn closed_words_have_the_digest_of_the_bytes() {
+    for w in WIDTHS_OF_BYTES {
+        for n in 1..=8 {
+            for bytes in lengths(w) {
+                let call = fit(w, n, bytes);
+                let words = call.settings.closed_words(&call.message);
+                let mut of_words = vec![0; n as usize];
+                let number = ffi::digest_words(call.settings, &words, &call.key, &mut of_words);
+                let due = if words.len() > MOST_WORDS { 4 } else { 0 };
+                assert_eq!(number, due, "w {w}, n {n}, {bytes} bytes");
+                if due == 0 {
+                    let of_bytes = digest(&call, &call.message);
+                    assert_eq!(of_words, of_bytes, "w {w}, n {n}, {bytes} bytes");
+                }
+            }
+        }
+    }
+}

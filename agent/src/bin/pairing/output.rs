@@ -246,12 +246,12 @@ impl Drop for Beside {
 }
 
 /// Gives the new file the permissions of the old one, its group, and its owner where that is
-/// allowed. A group that cannot be kept leaves none of its rights to another.
+/// allowed. A group that cannot be kept leaves to another no more than everybody has.
 fn keep_permissions(new: &File, old: &Metadata) -> io::Result<()> {
     let mut mode = old.mode() & 0o777;
     let made = new.metadata()?;
     if made.gid() != old.gid() && fchown(new, None, Some(old.gid())).is_err() {
-        mode &= !0o070;
+        mode &= 0o707 | (mode & 0o007) << 3;
     }
     if made.uid() != old.uid() {
         let _ = fchown(new, Some(old.uid()), None);
