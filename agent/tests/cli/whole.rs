@@ -1,25 +1,16 @@
 //! Files that are written whole or not at all, and names that stand for one file.
 
 use crate::run::{accepted, bad_usage, no_access, pairing, pairing_with, redirected, unread};
-use crate::run::{run, Folder, PROGRAM};
+use crate::run::{run, Folder, Run, PROGRAM};
 use std::fs::{self, OpenOptions};
 use std::os::unix::fs::{symlink, FileTypeExt, PermissionsExt};
 use std::process::Command;
 
 /// The arguments of a load into those files.
 fn load<'a>(key: &'a str, message: &'a str) -> [&'a str; 9] {
-    let counts = ["2", "1"];
-    let [key_words, message_words] = counts;
+    let [seed, to_key, to_message] = ["--seed", "--key-to", "--message-to"];
     [
-        "load",
-        "--seed",
-        "5489",
-        "--key-to",
-        key,
-        "--message-to",
-        message,
-        key_words,
-        message_words,
+        "load", seed, "5489", to_key, key, to_message, message, "2", "1",
     ]
 }
 
@@ -28,6 +19,13 @@ const KEY: &str = "0xd091bb5c\n0x22ae9ef6\n";
 const MESSAGE: &str = "0xe7e1faee\n";
 
 const BEFORE: &str = "before\n";
+
+/// What the shell's script leaves, run in the folder with the program and its arguments.
+fn in_shell(folder: &Folder, script: &str, args: &[&str]) -> Run {
+    let mut shell = Command::new("sh");
+    shell.current_dir(folder.path("."));
+    run(shell.args(["-c", script, PROGRAM]).args(args), b"")
+}
 
 /// A folder with the file `old`, and names that lead to it and to the file `new`, which is missing.
 fn with_links(name: &str) -> Folder {
@@ -82,9 +80,8 @@ fn one_file_has_many_names() {
     assert_eq!(folder.listing(), listing);
     // Names in the folder from which the program runs.
     for [one, other] in [["old", "./old"], ["new", "./new"], ["to-new", "new"]] {
-        let mut command = Command::new(PROGRAM);
-        command.current_dir(folder.path(".")).args(load(one, other));
-        assert_eq!(run(&mut command, b"").status, 64, "{one}, {other}");
+        let run = in_shell(&folder, "exec \"$0\" \"$@\"", &load(one, other));
+        assert_eq!(run.status, 64, "{one}, {other}");
     }
     assert_eq!(folder.listing(), listing);
 }
@@ -179,25 +176,18 @@ fn a_row_that_cannot_be_printed_leaves_the_other_file() {
 #[test]
 fn a_disk_that_is_full_in_the_middle() {
     let folder = Folder::new("full-disk");
-    let files = ["key", "message"].map(|name| folder.path(name));
     let script = "trap '' XFSZ; ulimit -f 8; exec \"$0\" \"$@\"";
-    for (counts, unwritten) in [(["65544", "1"], 0), (["1", "65536"], 1)] {
+    let files = ["--key-to", "key", "--message-to", "message"];
+    for (counts, unwritten) in [(["65544", "1"], "key"), (["1", "65536"], "message")] {
         folder.write("key", BEFORE);
         folder.write("message", BEFORE);
-        let mut shell = Command::new("sh");
-        shell.args(["-c", script, PROGRAM, "load", "--seed", "1"]);
-        shell.args(["--key-to", &files[0], "--message-to", &files[1]]);
-        let run = run(shell.args(counts), b"");
+        let args = [&["load", "--seed", "1"], &files[..], &counts].concat();
+        let run = in_shell(&folder, script, &args);
         assert_eq!((run.status, run.out.as_str()), (74, ""), "{}", run.err);
-        let why = format!(
-            "pairing: cannot write '{}': File too large",
-            files[unwritten]
-        );
+        let why = format!("pairing: cannot write '{unwritten}': File too large");
         assert!(run.err.starts_with(&why), "{}", run.err);
-        assert_eq!(
-            ["key", "message"].map(|name| folder.read(name)),
-            [BEFORE; 2]
-        );
+        let held = ["key", "message"].map(|name| folder.read(name));
+        assert_eq!(held, [BEFORE; 2]);
         assert_eq!(folder.listing(), ["key", "message"]);
     }
 }
@@ -217,16 +207,11 @@ fn permissions_are_kept() {
         assert_eq!((folder.read("old").as_str(), mode(&old)), (KEY, kept));
     }
     // A new file has those that a file of the shell has.
-    let new = folder.path("new");
-    let shell = folder.path("shell");
     for mask in ["022", "077"] {
-        let script = format!("umask {mask}; : >'{shell}'; exec \"$0\" \"$@\"");
-        let mut command = Command::new("sh");
-        command
-            .args(["-c", &script, PROGRAM])
-            .args(load("/dev/null", &new));
-        assert_eq!(run(&mut command, b"").status, 0);
-        assert_eq!(folder.read("new"), MESSAGE);
+        let script = format!("umask {mask}; : >shell; exec \"$0\" \"$@\"");
+        let run = in_shell(&folder, &script, &load("/dev/null", "new"));
+        assert_eq!((run.status, folder.read("new").as_str()), (0, MESSAGE));
+        let [new, shell] = ["new", "shell"].map(|name| folder.path(name));
         assert_eq!(mode(&new), mode(&shell), "{mask}");
         fs::remove_file(&new).unwrap();
         fs::remove_file(&shell).unwrap();
@@ -294,18 +279,8 @@ fn a_pipe_is_written_as_it_is() {
 fn a_file_without_a_name() {
     let folder = Folder::new("no-name");
     let script = "exec 3<>lost; rm lost; \"$0\" \"$@\" && cat /dev/fd/3";
-    let mut shell = Command::new("sh");
-    shell.current_dir(folder.path("."));
-    shell
-        .args(["-c", script, PROGRAM])
-        .args(load("/dev/fd/3", "message"));
-    let ended = run(&mut shell, b"");
-    assert_eq!(
-        (ended.status, ended.out.as_str()),
-        (0, KEY),
-        "{}",
-        ended.err
-    );
+    let run = in_shell(&folder, script, &load("/dev/fd/3", "message"));
+    assert_eq!((run.status, run.out.as_str()), (0, KEY), "{}", run.err);
     assert_eq!(folder.listing(), ["message"]);
 }
 
@@ -365,16 +340,16 @@ fn a_row_replaces_the_file_of_its_seed() {
 fn what_other_runs_left_is_left() {
     let folder = Folder::new("left");
     let script = "touch .pairing-$$-0 .pairing-$$-1; exec \"$0\" \"$@\"";
-    let mut shell = Command::new("sh");
-    shell.current_dir(folder.path("."));
-    shell
-        .args(["-c", script, PROGRAM])
-        .args(load("key", "message"));
-    assert_eq!(run(&mut shell, b"").status, 0);
+    let ended = in_shell(&folder, script, &load("key", "message"));
+    assert_eq!((ended.status, ended.err.as_str()), (0, ""));
     assert_eq!([folder.read("key"), folder.read("message")], [KEY, MESSAGE]);
     assert_eq!(folder.listing().len(), 4);
-    // What is refused tries nothing.
+}
+
+/// The library is asked before any place is.
+#[test]
+fn what_is_refused_tries_nothing() {
     let args = ["load", "--seed=1", "--key-to=/nonexist/k", "--message-to=-"];
     let run = pairing(&[&args[..], &["65545", "1"]].concat());
-    assert_eq!(run.status, 2);
+    assert_eq!((run.status, run.out.as_str()), (2, ""));
 }
