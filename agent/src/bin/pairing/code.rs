@@ -1,6 +1,7 @@
 //! `pairing code`.
 
 use crate::args::{too_many, Args};
+use crate::digest::one_word;
 use crate::ending::{usage, Answer, Failure};
 use crate::keyed::{key_help, Key, Keyed};
 use crate::message::{label_help, Message, Source};
@@ -46,7 +47,7 @@ impl Keyed for Code {
     }
 
     fn key_words(&self) -> usize {
-        let settings = refused::one_word(self.width);
+        let settings = one_word(self.width);
         settings.key_words(self.message.words(settings))
     }
 

@@ -1,6 +1,7 @@
 //! `pairing count`: the class's count at a small width.
 
 use crate::args::Args;
+use crate::digest::one_word;
 use crate::ending::{usage, Answer, Failure};
 use crate::output::{self, Outputs};
 use crate::show::thousands;
@@ -60,7 +61,7 @@ pub fn run(args: Args) -> Result<Answer, Failure> {
 /// The digest of a one-word message, computed by the proved library.
 fn digest(w: u32, message: u32, key: [u32; 2]) -> Result<u32, Refusal> {
     let mut out = [0];
-    pairing_agent::digest_words(refused::one_word(w), &[message], &key, &mut out)?;
+    pairing_agent::digest_words(one_word(w), &[message], &key, &mut out)?;
     Ok(out[0])
 }
 

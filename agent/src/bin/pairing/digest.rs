@@ -112,6 +112,15 @@ pub fn settings(args: &Args) -> Result<Settings, Failure> {
     })
 }
 
+/// The settings of one digest word with every bit kept.
+pub fn one_word(width: u32) -> Settings {
+    Settings {
+        width,
+        kept: width,
+        words: 1,
+    }
+}
+
 fn run(args: &Args, read: fn(&OsStr) -> Result<Message, Failure>) -> Result<Answer, Failure> {
     let settings = settings(args)?;
     let [file] = args.operands(["FILE"])?;

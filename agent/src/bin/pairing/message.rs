@@ -1,8 +1,9 @@
 //! A message, of bytes or of words.
 
 use crate::args::{missing, Args};
+use crate::digest::one_word;
 use crate::ending::{content, Failure};
-use crate::{input, refused};
+use crate::input;
 use pairing_agent::{Refusal, Settings};
 use std::borrow::Cow;
 use std::ffi::{OsStr, OsString};
@@ -31,7 +32,7 @@ impl Message {
     /// Its words, for a call that takes only words. The width must be one that bytes fill; the
     /// library is asked, by a digest without a key. Its later tests are left to the call itself.
     pub fn in_words(&self, width: u32) -> Result<Cow<'_, [u32]>, Refusal> {
-        let settings = refused::one_word(width);
+        let settings = one_word(width);
         match self {
             Message::Bytes(bytes) => match self.digest(settings, &[], &mut []) {
                 Err(Refusal::Width) => Err(Refusal::Width),

@@ -2,6 +2,7 @@
 //!
 //! The library has decided; this only describes the call.
 
+use crate::digest::one_word;
 use crate::ending::Failure;
 use crate::input::MOST_BYTES;
 use crate::message::Message;
@@ -12,15 +13,6 @@ use pairing_agent::{MOST_DIGEST_WORDS, MOST_KEY_WORDS, MOST_MESSAGE_WORDS};
 
 const WIDTHS: &str = "1 to 32";
 const WIDTHS_FOR_BYTES: &str = "8, 16 or 32";
-
-/// The settings of a call that has only a width: one digest word, every bit kept.
-pub fn one_word(width: u32) -> Settings {
-    Settings {
-        width,
-        kept: width,
-        words: 1,
-    }
-}
 
 pub fn digest(refusal: Refusal, settings: Settings, message: &Message, key: &[u32]) -> Failure {
     let Settings { width, kept, words } = settings;

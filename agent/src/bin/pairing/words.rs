@@ -1,6 +1,7 @@
 //! `pairing words`.
 
 use crate::args::Args;
+use crate::digest::one_word;
 use crate::ending::{Answer, Failure};
 use crate::message::Message;
 use crate::refused;
@@ -24,7 +25,7 @@ pub fn run(args: Args) -> Result<Answer, Failure> {
     let width = args.number("--width")?.unwrap_or(32);
     let [file] = args.operands(["FILE"])?;
     let label = Message::read_bytes(file)?;
-    let settings = refused::one_word(width);
+    let settings = one_word(width);
     // The library's word on a digest without a key: of all its tests only Key must fail.
     match label.digest(settings, &[], &mut []) {
         Ok(()) | Err(Refusal::Key) => {}
