@@ -69,6 +69,7 @@ fn bad_commands() {
     bad_usage("?[31m is no command;", &["\x1b[31m"], b"");
     // A near miss names the command.
     for (name, command) in [
+        ("word", "words"),
         ("digest-word", "digest-words"),
         ("digest_words", "digest-words"),
         ("Match", "match"),

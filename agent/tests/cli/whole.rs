@@ -278,9 +278,12 @@ fn a_pipe_is_written_as_it_is() {
 #[test]
 fn a_file_without_a_name() {
     let folder = Folder::new("no-name");
-    let script = "exec 3<>lost; rm lost; \"$0\" \"$@\" && cat /dev/fd/3";
-    let run = in_shell(&folder, script, &load("/dev/fd/3", "message"));
-    assert_eq!((run.status, run.out.as_str()), (0, KEY), "{}", run.err);
+    let long = "long before ".repeat(10);
+    let script = format!("exec 3<>lost; echo '{long}' >&3; rm lost; \"$0\" \"$@\"; cat /dev/fd/3");
+    let run = in_shell(&folder, &script, &load("/dev/fd/3", "/nonexist/m"));
+    assert_eq!(run.out, format!("{long}\n"), "{}", run.err);
+    let run = in_shell(&folder, &script, &load("/dev/fd/3", "message"));
+    assert_eq!((run.out.as_str(), run.err.as_str()), (KEY, ""));
     assert_eq!(folder.listing(), ["message"]);
 }
 

@@ -203,12 +203,13 @@ fn help(args: &[OsString]) -> Result<&'static str, Failure> {
     }
 }
 
-/// Names a command whose name has the given one in it, if there is one.
+/// Names the shortest command whose name has the given one in it, if there is one.
 fn no_command(name: &OsStr) -> Failure {
     let plain = name.to_string_lossy().to_lowercase().replace('_', "-");
     let near = COMMANDS
         .iter()
-        .find(|command| plain.len() > 2 && command.name.contains(&plain));
+        .filter(|command| plain.len() > 2 && command.name.contains(&plain))
+        .min_by_key(|command| command.name.len());
     let name = shown(name);
     usage(match near {
         Some(command) => format!("{name} is no command, but {} is", command.name),

@@ -32,6 +32,14 @@ fn write(mut file: File, text: &str) -> io::Result<()> {
     stdio::close(file)
 }
 
+/// The same, without what the file held, if it is one that holds something.
+fn write_anew(file: File, text: &str) -> io::Result<()> {
+    if file.metadata()?.is_file() {
+        file.set_len(0)?;
+    }
+    write(file, text)
+}
+
 fn cannot_write(name: &str, error: &io::Error) -> Failure {
     access(format!("cannot write {name}: {error}"))
 }
@@ -93,7 +101,7 @@ impl Outputs {
             }
         }
         for (name, file, text) in open {
-            write(file, text).map_err(|error| cannot_write(&name, &error))?;
+            write_anew(file, text).map_err(|error| cannot_write(&name, &error))?;
         }
         for text in printed {
             print(text)?;
@@ -107,7 +115,7 @@ impl To {
         let target = match place::named(file)? {
             Place::StandardOutput => return Ok(To::StandardOutput),
             Place::AsItIs(path) => {
-                let file = OpenOptions::new().write(true).truncate(true).open(path)?;
+                let file = OpenOptions::new().write(true).open(path)?;
                 return Ok(To::Open(file));
             }
             Place::Old(path, old) => {
