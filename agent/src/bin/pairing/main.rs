@@ -1,7 +1,8 @@
 //! The command line of the pairing toolkit.
 //!
-//! Every digest, code, key, load and match is the proved library's. Settings and lengths go to it
-//! as they were given, and its answer decides.
+//! Every digest, code, key, load and match is the proved library's; only the words of a label, for
+//! the calls that take words, are made beside it. Settings and lengths go to it as they were given,
+//! and its answer decides.
 
 #![deny(unsafe_code)]
 
@@ -45,8 +46,8 @@ Usage: pairing COMMAND ...
 
   digest         the digest of a file's bytes
   digest-words   the digest of a row of words
-  code           the code of a row of words: digits to be read aloud
-  crew           the digests of a row of words under the keys of up to 16 peers
+  code           the code of a row of words or a label: digits to be read aloud
+  crew           the digests of a row of words or a label under up to 16 peers' keys
   words          the words that a file's bytes make, for the commands that take words
   stretch        key words from a seed
   load           a key row and a message row from a seed, for a test bench

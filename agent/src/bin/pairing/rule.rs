@@ -9,7 +9,8 @@ The rule that makes a pairing safe:
   Keep it secret until then.
   Use it once.
   Every retry is another chance for a wrong label.
-Whoever knows the key before that can find a second label with the same digest.
+The counts over all keys help only then: whoever knows the key before that can
+find a second label with the same digest.
 "
     };
 }

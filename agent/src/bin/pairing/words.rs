@@ -16,7 +16,8 @@ Usage: pairing words [--width W] FILE
   FILE         the label, of any bytes; - is standard input
 
 The byte 0x80 closes the label, as in 'pairing digest': the digest of these words
-is the digest of the bytes. Prints them on one line, each as 0x and eight
+is the digest of the bytes. They are made by this command and not by the library,
+which is tested and not proved. Prints them on one line, each as 0x and eight
 hexadecimal digits: a message for 'digest-words', 'code' and 'crew' at the same
 width. 'code' and 'crew' also take a label at once, with --label.
 ";
