@@ -9,8 +9,8 @@ The rule that makes a pairing safe:
   Keep it secret until then.
   Use it once.
   Every retry is another chance for a wrong label.
-The counts over all keys help only then: whoever knows the key before that can
-find a second label with the same digest.
+All of this goes for a seed as well. The counts over all keys help only then:
+whoever knows the key before that can find a second label with the same digest.
 "
     };
 }

@@ -23,7 +23,8 @@ message of t words and a digest of n; a stretched key is one of at most 2^32, fr
 arrays of k words one of at most 2^(32*k), and no count is proved for those.
 ",
     rule_help!(),
-    "MT19937 is no cryptographic generator, and need not be one: the key is public once
+    "
+MT19937 is no cryptographic generator, and need not be one: the key is public once
 the digest is made, and is used for no other.
 "
 );
