@@ -1,4 +1,4 @@
-//! `pairing count`: the class's count at a small width.
+//! `pairing count`: 003's count at seven bits, and the same at other small widths.
 
 use crate::args::Args;
 use crate::digest::one_word;
