@@ -21,7 +21,8 @@ wordsFrom c (suc t) xs = littleEndian c xs ∷ wordsFrom c t (drop c xs)
 unfoldable pub countOf : ℕ → ℕ → ℕ
 countOf c bytes = (bytes + (c - 1)) / c
 
--- 02, "One": a closed message has the byte 0x80 after its last, and that byte alone where it has none
+-- 02, "One": a closed message has the byte 0x80 after its last, and that byte alone where it has none. With the zeros that fill its last word
+-- this is the field's 10* padding
 unfoldable pub closed : List ℕ → List ℕ
 closed xs = xs ++ (0x80 ∷ [])
 

@@ -21,28 +21,27 @@ use Rattle.answers.proofs.Rows.{accepted-row}
 use Rattle.code.specs.Code.{code}
 use Rattle.code.specs.Calls.{codeAnswer, codeRow}
 use Rattle.code.specs.Reading.{CodeLength}
-use Rattle.code.specs.Claims.{InRange, bytesAgree, keysThatAgree, keysThatMatch, CodeBound, FalseCodes}
+use Rattle.code.specs.Claims.{InRange, bytesAgree, keysThatAgree, keysThatMatch, CodeBound, FalseCodes, CodeAccepted}
 use Rattle.code.proofs.Reading.{code-length}
 use Rattle.code.proofs.Agreeing.{code-bound}
 
-module _ (w d t : ℕ) (r : InRange w d) (few : t ≤ 65536) where
-  -- a message and a key of the count are accepted
-  pub code-accepted : (ms ks out : List ℕ) → (d + 1) / 2 ≤ length out → Row w t ms → Row w (t + 1) ks → codeAnswer w d ms ks out ≡ 0
-  unfolding codeAnswer
-  code-accepted ms ks out room m k =
-      passes 1 _ 0 refl (width-passes w (r .some-width) (r .width))
-      (passes 9 _ 0 refl (digits-pass w d (r .some-digits) (r .digits))
-      (passes 4 _ 0 refl (long-passes 65536 (length ms) (omega (arith, m .long)))
-      (passes 5 _ 0 refl (key-passes (length ms + 1) (length ks) (omega (arith, m .long, k .long)))
-      (passes 6 _ 0 refl (tray-passes ((d + 1) / 2) (length out) room)
-      (passes 7 _ 0 refl (words-pass w ms ks (holds (fits w ms) (m .below)) (holds (fits w ks) (k .below))) (none-holds 0))))))
+pub code-accepted : CodeAccepted
+unfolding CodeAccepted codeAnswer
+code-accepted w d t ms ks out r few room m k =
+    passes 1 _ 0 refl (width-passes w (r .some-width) (r .width))
+    (passes 9 _ 0 refl (digits-pass w d (r .some-digits) (r .digits))
+    (passes 4 _ 0 refl (long-passes 65536 (length ms) (omega (arith, m .long)))
+    (passes 5 _ 0 refl (key-passes (length ms + 1) (length ks) (omega (arith, m .long, k .long)))
+    (passes 6 _ 0 refl (tray-passes ((d + 1) / 2) (length out) room)
+    (passes 7 _ 0 refl (words-pass w ms ks (holds (fits w ms) (m .below)) (holds (fits w ks) (k .below))) (none-holds 0))))))
 
+module _ (w d t : ℕ) (r : InRange w d) (few : t ≤ 65536) where
   -- a byte that the call wrote
   written-byte : (ms ks out : List ℕ) (i : ℕ) → (d + 1) / 2 ≤ length out → Row w t ms → Row w (t + 1) ks → i < (d + 1) / 2
       → getD (codeRow w d ms ks out) i 0 ≡ getD (code w d ms ks) i 0
-  unfolding codeRow CodeLength
+  unfolding codeRow CodeLength CodeAccepted
   written-byte ms ks out i room m k lt =
-      ap (λ (l : List ℕ). getD l i 0) (accepted-row (codeAnswer w d ms ks out) (code w d ms ks) out (code-accepted ms ks out room m k))
+      ap (λ (l : List ℕ). getD l i 0) (accepted-row (codeAnswer w d ms ks out) (code w d ms ks) out (code-accepted w d t ms ks out r few room m k))
       ∙ List·getD-append (code w d ms ks) (drop (length (code w d ms ks)) out) 0 i (omega (arith, code-length w d ms ks))
 
   module _ (first second out out′ ks : List ℕ) (room : (d + 1) / 2 ≤ length out) (room′ : (d + 1) / 2 ≤ length out′) (m : Row w t first) (m′ : Row w t second) (k : Row w (t + 1) ks) where

@@ -1,4 +1,5 @@
 -- How many keys give two messages one code (document 02, "Two"), for every width w, every d and every message length t.
+use mathlib.Core.Path.{_≡_}
 use mathlib.Core.Bool.{Bool}
 use mathlib.Core.Logic.{_≢_}
 use mathlib.Core.List.{List}
@@ -8,7 +9,7 @@ use lib.ListN.{length, getD}
 use Rattle.counts.specs.Count.{count, sameRow, every}
 use Rattle.counts.specs.Claims.{Row}
 use Rattle.code.specs.Code.{code}
-use Rattle.code.specs.Calls.{codeRow}
+use Rattle.code.specs.Calls.{codeAnswer, codeRow}
 
 -- how many keys of t + 1 words give both messages one code, byte for byte
 unfoldable pub keysThatAgree : ℕ → ℕ → ℕ → List ℕ → List ℕ → ℕ
@@ -54,3 +55,14 @@ FalseCodes =
     → Row w t second
     → first ≢ second
     → keysThatMatch w d t first second out out′ ≤ bound w d t
+
+-- 01, "Numbers the agent sees": under each of these keys the call is accepted
+unfoldable pub CodeAccepted : Type 0
+CodeAccepted =
+    (w d t : ℕ) (ms ks out : List ℕ)
+    → InRange w d
+    → t ≤ 65536
+    → (d + 1) / 2 ≤ length out
+    → Row w t ms
+    → Row w (t + 1) ks
+    → codeAnswer w d ms ks out ≡ 0

@@ -1,4 +1,4 @@
 pub mod Laws
 pub mod Row
 pub mod Compared
-pub mod Printed
+pub mod Found

@@ -1,4 +1,4 @@
 pub mod Agree
 pub mod Table
 pub mod Search
-pub mod Printed
+pub mod Found

@@ -6,7 +6,7 @@ use Prim.Native.Nat.{ℕ, zero, suc, _^_, _<_}
 use lib.Dec.{ltb}
 use lib.Pow.{pow-pos}
 use lib.ListN.{getD, take, drop, replicate, take-append-drop}
-use borrow.Author.Tests.{lt-ltb}
+use borrow.Author.Tests.{lt-ltb, ltb-true}
 use Rattle.counts.specs.Digest.{fits}
 
 -- both of two tests
@@ -33,3 +33,10 @@ pub fits-each : (w : ℕ) (xs : List ℕ) → ((i : ℕ) → getD xs i 0 < 2 ^ w
 unfolding fits
 fits-each w [] h = refl
 fits-each w (x ∷ xs) h = rw (lt-ltb x (2 ^ w) (h 0)) (fits-each w xs (λ i. h (suc i)))
+
+-- each word of a row that fits
+pub fits-at : (w : ℕ) (xs : List ℕ) (i : ℕ) → fits w xs ≡ true → getD xs i 0 < 2 ^ w
+unfolding fits
+fits-at w [] i h = pow-pos w
+fits-at w (x ∷ xs) zero h = ltb-true x (2 ^ w) (both (ltb x (2 ^ w)) (fits w xs) h .0)
+fits-at w (x ∷ xs) (suc i) h = fits-at w xs i (both (ltb x (2 ^ w)) (fits w xs) h .1)

@@ -49,11 +49,11 @@ WholeBound = BoundOfPart 1 1
 unfoldable pub NoSmallerBound : Type 0
 NoSmallerBound = (p q : ℕ) → p < q → ¬ BoundOfPart p q
 
--- every width from q on passes p/q of the bound
+-- at every width from q on that has such a pair, which is from 2 on, it passes p/q of the bound
 unfoldable pub PassedFrom : Type 0
 PassedFrom = (p q w : ℕ) → p < q → q ≤ w → 2 ≤ w → p * 2 ^ (w + 1) < q * pairKeys w w (half w)
 
--- 01, case I; the pair that the class finds at seven bits; the widest words
+-- 01, case I; the count that 003 reports at seven bits (01, "Worked digests": 240 of 16,384 keys); the widest words
 unfoldable pub TwoBits : Type 0
 TwoBits = keysThatDiffer 2 2 1 1 (1 ∷ []) (3 ∷ []) (0 ∷ []) ≡ 6
 

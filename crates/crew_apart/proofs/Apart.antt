@@ -1,24 +1,26 @@
--- A peer's row is of its own key, whatever the others are; another key reaches the answer in one way; a crew of one is the word digest.
+-- A peer's row is of its own key, whatever the others are; another key reaches the answer in one way, by a word that does not fit, which refuses the
+-- call for all; a crew of one is the word digest.
 -- Assumes nothing.
 use mathlib.Core.Path.{_≡_, refl, sym, ap, ap₂, _∙_}
 use mathlib.Core.Bool.{Bool, true, false, _&&_, cond, true≢false}
-use mathlib.Core.Logic.{_⊎_, inl, inr}
+use mathlib.Core.Logic.{_≢_, _⊎_, inl, inr}
 use mathlib.Core.List.{List, [], _∷_}
-use Prim.Native.Nat.{ℕ, _+_}
+use Prim.Native.Nat.{ℕ, _+_, _*_}
 use native.Mathlib.Nat.{one-mul, zero-mul}
 use native.Mathlib.Decide.{ℕ-discrete}
 use native.Mathlib.Omega.{arith}
 use lib.ListN.{length, drop}
 use lib.Seq.{take-all}
 use Rattle.counts.specs.Digest.{fits, digest}
+use Rattle.counts.proofs.Fits.{fits-parts, fits-at}
 use Rattle.answers.specs.Answers.{Test, firstOf, afterwards}
 use Rattle.answers.specs.Table.{badPeers, wordTest}
-use Rattle.answers.proofs.Judged.{word-last}
+use Rattle.answers.proofs.Judged.{passed, words-passed, word-last}
 use Rattle.answers.proofs.Rows.{accepted-row, refused-row}
 use Rattle.digest.specs.Words.{digestAnswer, digestRow}
 use Rattle.crew.specs.Crew.{rowAt, crewRows}
 use Rattle.crew.specs.Calls.{crewAnswer, crewRow}
-use Rattle.crew_apart.specs.Claims.{RowAlone, CrewOfOne, OtherKeysDoNotReach, Reached, OneWayOnly, KeysReplaced}
+use Rattle.crew_apart.specs.Claims.{RowAlone, CrewOfOne, OtherKeysDoNotReach, TooLarge, AnyKeyRefuses, RefusedAsWord, Reached, OneWayOnly, KeysReplaced}
 use Rattle.crew.specs.Shape.{crewShape}
 use Rattle.crew.proofs.EndToEnd.{row-of}
 use Rattle.crew.proofs.Passed.{by-length, crew-answer, crew-key}
@@ -85,6 +87,41 @@ unfolding OneWayOnly
 one-way-only w b n p ms ks ks′ out e e′ =
     let same : crewShape w b n p ms ks′ out ≡ crewShape w b n p ms ks out = by-length w b n p ms ks′ ks out (e′ ∙ sym e) in
     rw (← crew-answer w b n p ms ks out, ← crew-answer w b n p ms ks′ out, same) (ways w (crewShape w b n p ms ks out) ms ks ks′ (fits w ks) (fits w ks′) refl refl)
+
+-- the keys of an accepted call fit
+crew-fit : (w b n p : ℕ) (ms ks out : List ℕ) → crewAnswer w b n p ms ks out ≡ 0 → fits w ks ≡ true
+unfolding crewAnswer
+crew-fit w b n p ms ks out e =
+    let p₄ = passed 9 _ _ (passed 2 _ _ (passed 1 _ _ (passed 0 _ _ e .1) .1) .1) in
+    let p₇ = passed 5 _ _ (passed 4 _ _ (passed 3 _ _ (p₄ .1) .1) .1) in
+    words-passed w ms ks (passed 6 _ _ (p₇ .1) .0) .1
+
+module _ (w b n p i j : ℕ) (ms ks out : List ℕ) (large : TooLarge w (length ms + n) i j ks) where
+  key-refused : crewAnswer w b n p ms ks out ≢ 0
+  key-refused e =
+      let size : ℕ = length ms + n in
+      let key = fits-parts w size (drop (i * size) ks) (fits-parts w (i * size) ks (crew-fit w b n p ms ks out e) .1) .0 in
+      omega (arith, large, fits-at w (rowAt size i ks) j key)
+
+pub any-key-refuses : AnyKeyRefuses
+unfolding AnyKeyRefuses crewRow
+any-key-refuses w b n p i j ms ks out large =
+    let refused = key-refused w b n p i j ms ks out large in
+    (refused, refused-row (crewAnswer w b n p ms ks out) (crewRows w b n p ms ks) out refused)
+
+pub refused-as-word : RefusedAsWord
+unfolding RefusedAsWord OneWayOnly
+refused-as-word w b n p i j ms ks ks′ out large long accepted =
+    let right = crew-key w b n p ms ks′ out accepted in
+    go (one-way-only w b n p ms ks ks′ out (long ∙ right) right)
+  where
+    go : (crewAnswer w b n p ms ks out ≡ crewAnswer w b n p ms ks′ out)
+        ⊎ (Reached w (crewAnswer w b n p ms ks out) ks (crewAnswer w b n p ms ks′ out) ks′
+        ⊎ Reached w (crewAnswer w b n p ms ks′ out) ks′ (crewAnswer w b n p ms ks out) ks)
+        → crewAnswer w b n p ms ks out ≡ 7
+    go (inl alike) = absurd (key-refused w b n p i j ms ks out large (alike ∙ accepted))
+    go (inr (inl one)) = one .0
+    go (inr (inr one)) = absurd (key-refused w b n p i j ms ks out large (one .2))
 
 pub keys-replaced : KeysReplaced
 unfolding KeysReplaced OneWayOnly OtherKeysDoNotReach

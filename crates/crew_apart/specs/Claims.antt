@@ -1,10 +1,10 @@
 -- What one peer's key is to another's answer (document 02, "Five"), and what a crew of one is: about the values that the promise names.
 use mathlib.Core.Path.{_≡_}
 use mathlib.Core.Bool.{true, false}
-use mathlib.Core.Logic.{_⊎_}
+use mathlib.Core.Logic.{_≢_, _⊎_}
 use mathlib.Core.List.{List}
-use Prim.Native.Nat.{ℕ, _+_, _*_, _<_}
-use lib.ListN.{length}
+use Prim.Native.Nat.{ℕ, _+_, _*_, _^_, _≤_, _<_}
+use lib.ListN.{length, getD}
 use Rattle.counts.specs.Digest.{fits, digest}
 use Rattle.digest.specs.Words.{digestAnswer, digestRow}
 use Rattle.crew.specs.Crew.{rowAt}
@@ -34,6 +34,26 @@ OtherKeysDoNotReach =
     → crewAnswer w b n p ms ks′ out′ ≡ 0
     → rowAt (length ms + n) i ks ≡ rowAt (length ms + n) i ks′
     → rowAt n i (crewRow w b n p ms ks out) ≡ rowAt n i (crewRow w b n p ms ks′ out′)
+
+-- word j of key i is 2^w or more, keys having size words. Past the last key such a word makes the slice too long
+abbrev pub TooLarge : ℕ → ℕ → ℕ → ℕ → List ℕ → Type 0
+TooLarge w size i j ks = 2 ^ w ≤ getD (rowAt size i ks) j 0
+
+-- 02, "Five": such a word in any key refuses the call for all: every row of the lent output is as it was
+unfoldable pub AnyKeyRefuses : Type 0
+AnyKeyRefuses =
+    (w b n p i j : ℕ) (ms ks out : List ℕ)
+    → TooLarge w (length ms + n) i j ks
+    → (crewAnswer w b n p ms ks out ≢ 0) × (crewRow w b n p ms ks out ≡ out)
+
+-- 01's number for it is 7, Word, where the tests before it pass, as they do if a slice of the same length is accepted in its place
+unfoldable pub RefusedAsWord : Type 0
+RefusedAsWord =
+    (w b n p i j : ℕ) (ms ks ks′ out : List ℕ)
+    → TooLarge w (length ms + n) i j ks
+    → length ks ≡ length ks′
+    → crewAnswer w b n p ms ks′ out ≡ 0
+    → crewAnswer w b n p ms ks out ≡ 7
 
 -- the one way: refused for a word of 2^w or more in some key, where the other slice has none and is accepted
 abbrev pub Reached : ℕ → ℕ → List ℕ → ℕ → List ℕ → Type 0

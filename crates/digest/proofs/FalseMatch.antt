@@ -3,19 +3,18 @@
 use mathlib.Core.Path.{_≡_, refl, ap, _∙_}
 use mathlib.Core.Bool.{Bool, true, false, cond}
 use mathlib.Core.List.{List, [], _∷_}
-use Prim.Native.Nat.{ℕ, _+_, _≤_}
-use native.Mathlib.Nat.{le-of-eq, le-trans}
+use Prim.Native.Nat.{ℕ, _+_, _≤_, zero-le}
+use native.Mathlib.Nat.{le-refl, le-trans}
 use lib.Dec.{eqb}
 use lib.ListN.{length}
-use Rattle.counts.specs.Digest.{digest}
 use Rattle.counts.specs.Count.{asNumber, count, sameRow}
 use Rattle.counts.specs.Corollaries.{keysThatCollide, Collisions}
-use Rattle.counts.proofs.Rows.{rows-cong}
+use Rattle.counts.proofs.Rows.{rows-le}
 use Rattle.counts.proofs.Corollaries.{collisions}
 use Rattle.digest.specs.Match.{matchAnswer, keysThatMatch, FalseMatches}
-use Rattle.answers.specs.Table.{matchTrayTest}
+use Rattle.answers.specs.Answers.{firstOf}
+use Rattle.answers.specs.Table.{badCount, badRows, matchTrayTest}
 use Rattle.answers.proofs.Judged.{passes, none-holds, count-passes, rows-pass}
-use Rattle.sums.proofs.Each.{length-digest}
 
 -- two rows of n words match exactly where they are equal
 pub match-agrees : (n : ℕ) (xs ys : List ℕ) → 1 ≤ n → n ≤ 8 → length xs ≡ n → length ys ≡ n → eqb (matchAnswer n xs ys) 100 ≡ sameRow xs ys
@@ -33,11 +32,18 @@ match-agrees n xs ys low high hx hy =
     hundred true = refl
     hundred false = refl
 
+-- and of no rows but equal ones does it answer 100, whatever n is
+pub match-at-most : (n : ℕ) (xs ys : List ℕ) → asNumber (eqb (matchAnswer n xs ys) 100) ≤ asNumber (sameRow xs ys)
+unfolding matchAnswer firstOf asNumber
+match-at-most n xs ys = go (badCount n) (badRows n (length xs) (length ys)) (sameRow xs ys)
+  where
+    go : (count rows same : Bool) → asNumber (eqb (cond count 3 (cond rows 6 (cond same 100 101))) 100) ≤ asNumber same
+    go true rows same = zero-le
+    go false true same = zero-le
+    go false false true = le-refl 1
+    go false false false = zero-le
+
 pub false-matches : FalseMatches
 unfolding FalseMatches keysThatMatch keysThatCollide count Collisions
-false-matches w b n t first second r _ m m′ ne =
-    le-trans
-    (le-of-eq
-    (rows-cong w (t + n)
-    (λ ks. ap asNumber (match-agrees n (digest w b n first ks) (digest w b n second ks) (r .some-words) (r .words) (length-digest w b n first ks) (length-digest w b n second ks)))))
-    (collisions w b n t first second (r .kept) m m′ ne)
+false-matches w b n t first second le m m′ ne =
+    le-trans (rows-le w (t + n) _ _ (λ ks _. match-at-most n _ _)) (collisions w b n t first second le m m′ ne)

@@ -1,3 +1,4 @@
 pub mod Agree
 pub mod FalseMatch
 pub mod Passed
+pub mod Calls

@@ -8,7 +8,6 @@ use lib.ListN.{length}
 use Rattle.counts.specs.Digest.{digest}
 use Rattle.counts.specs.Count.{count, sameRow}
 use Rattle.counts.specs.Claims.{Row}
-use Rattle.counts.specs.Corollaries.{InRange}
 use Rattle.answers.specs.Answers.{firstOf}
 use Rattle.answers.specs.Table.{countTest, matchTrayTest}
 
@@ -20,12 +19,12 @@ matchAnswer n first second = firstOf (countTest n ∷ matchTrayTest n (length fi
 unfoldable pub keysThatMatch : ℕ → ℕ → ℕ → ℕ → List ℕ → List ℕ → ℕ
 keysThatMatch w b n t first second = count w (t + n) (λ ks. eqb (matchAnswer n (digest w b n first ks) (digest w b n second ks)) 100)
 
--- a false match, counted: two different messages of t words match under at most 2^(w·t + n + n·(w−b)) keys
+-- a false match, counted: two different messages of t words match under at most 2^(w·t + n + n·(w−b)) keys. For every n: where it is
+-- not 1 to 8 the match answers 3, never 100
 unfoldable pub FalseMatches : Type 0
 FalseMatches =
     (w b n t : ℕ) (first second : List ℕ)
-    → InRange w b n
-    → t ≤ 65536
+    → b ≤ w
     → Row w t first
     → Row w t second
     → first ≢ second

@@ -2,28 +2,26 @@
 -- Assumes nothing.
 use mathlib.Core.Path.{_≡_, refl, _∙_}
 use mathlib.Core.Logic.{_≢_}
-use mathlib.Core.Bool.{Bool, true, false, cond}
+use mathlib.Core.Bool.{false}
 use mathlib.Core.List.{List}
-use Prim.Native.Nat.{ℕ, _+_, _≤_, zero-le}
-use native.Mathlib.Nat.{le-refl, le-of-eq, le-trans}
+use Prim.Native.Nat.{ℕ, _+_, _≤_}
+use native.Mathlib.Nat.{le-of-eq, le-trans}
 use native.Mathlib.Omega.{arith}
-use lib.Dec.{eqb}
 use lib.ListN.{length, take}
-use Rattle.counts.specs.Count.{asNumber, count, sameRow}
+use Rattle.counts.specs.Count.{count, sameRow}
 use Rattle.counts.specs.Claims.{Row}
 use Rattle.counts.specs.Corollaries.{Collisions, keysThatCollide}
 use Rattle.counts.specs.CommonKey.{filledUp, commonKeys, commonKeysThatDiffer, BoundWhere, CommonKeyBound}
 use Rattle.counts.proofs.Rows.{rows-cong, rows-le, rows-one}
 use Rattle.counts.proofs.Corollaries.{collisions}
 use Rattle.counts.proofs.CommonKey.{count-filled, filled-row, common-key-bound, none-between}
-use Rattle.answers.specs.Answers.{firstOf}
-use Rattle.answers.specs.Table.{badByteWidth, badCount, badRows}
+use Rattle.answers.specs.Table.{badByteWidth}
 use Rattle.answers.proofs.Judged.{byte-width-passed}
 use Rattle.byte_sums.specs.Bytes.{wordsOf}
 use Rattle.byte_sums.specs.Closed.{Bytes, KeepsApart, ClosedApart}
 use Rattle.byte_sums.proofs.FromBytes.{bytes-fit}
 use Rattle.byte_sums.proofs.Closed.{closed-apart}
-use Rattle.digest.specs.Match.{matchAnswer}
+use Rattle.digest.proofs.FalseMatch.{match-at-most}
 use Rattle.unlike_lengths.specs.Labels.{Labels, labelKeys, labelKeysThatDiffer, bound, LabelBoundAt, LabelBound, LabelBoundInRange, OneLabel, labelKeysThatMatch, FalseLabels}
 
 -- the words of a label fit
@@ -49,17 +47,6 @@ label-bound-in-range w b n m r _ = label-bound w b n m (r .kept)
 pub one-label : OneLabel
 unfolding OneLabel labelKeysThatDiffer labelKeys count
 one-label w b n m label = rows-cong w (m + n) (λ ks. none-between w b n (wordsOf w label) (take (length (wordsOf w label) + n) ks)) ∙ rows-one w (m + n)
-
--- the match answers 100 of no rows but equal ones, whatever n is
-match-at-most : (n : ℕ) (xs ys : List ℕ) → asNumber (eqb (matchAnswer n xs ys) 100) ≤ asNumber (sameRow xs ys)
-unfolding matchAnswer firstOf asNumber
-match-at-most n xs ys = go (badCount n) (badRows n (length xs) (length ys)) (sameRow xs ys)
-  where
-    go : (count rows same : Bool) → asNumber (eqb (cond count 3 (cond rows 6 (cond same 100 101))) 100) ≤ asNumber same
-    go true rows same = zero-le
-    go false true same = zero-le
-    go false false true = le-refl 1
-    go false false false = zero-le
 
 pub false-labels : FalseLabels
 unfolding FalseLabels labelKeysThatMatch labelKeys bound commonKeys count Collisions keysThatCollide

@@ -1,6 +1,6 @@
--- Every row of the table of cases holds: one test, computed over the whole table, and one theorem.
+-- Every case is in the table, and every row of it holds: one test, computed over the whole table, and one theorem.
 -- Assumes nothing.
-use mathlib.Core.Path.{_≡_}
+use mathlib.Core.Path.{_≡_, refl}
 use mathlib.Core.Bool.{Bool, true, _&&_}
 use mathlib.Core.List.{List, [], _∷_}
 use Prim.Native.Nat.{ℕ, zero, suc, _<_}
@@ -24,18 +24,22 @@ use Rattle.code.specs.Calls.{codeAnswer, codeRow}
 use Rattle.stream.specs.State.{fitState, lastWords, pushed, opened, noStream}
 use Rattle.stream.specs.Calls.{openAnswer, openState, pushAnswer, pushState, readAnswer, reading, readRow}
 use Rattle.mt19937.specs.Published.{following, newWord, newWords, seeded}
-use Rattle.worked_cases.specs.Cases.{Case, case, called, cases}
+use Rattle.worked_cases.specs.Cases.{Case, case, called, cases, EveryLetter, EveryCase}
 
 agree : List Case → Bool
 agree [] = true
 agree (c ∷ cs) = sameRow (c .given) (c .written) && agree cs
 
-agree-at : (cs : List Case) → T (agree cs) → (i : ℕ) → i < length cs → getD cs i (case [] []) .given ≡ getD cs i (case [] []) .written
+agree-at : (cs : List Case) → T (agree cs) → (i : ℕ) → i < length cs → getD cs i (case "" [] []) .given ≡ getD cs i (case "" [] []) .written
 unfolding agree RowTest
 agree-at [] t i lt = absurd (not-suc-le-zero lt)
 agree-at (c ∷ cs) t zero lt = row-test (c .given) (c .written) .0 (both (sameRow (c .given) (c .written)) (agree cs) t .0)
 agree-at (c ∷ cs) t (suc i) lt = agree-at cs (both (sameRow (c .given) (c .written)) (agree cs) t .1) i (le-of-suc-le-suc lt)
 
-pub every-case : (i : ℕ) → i < length cases → getD cases i (case [] []) .given ≡ getD cases i (case [] []) .written
-unfolding agree cases called openAnswer openState pushAnswer pushState readAnswer reading readRow padded fitState addSums lastWords pushed opened noStream wordsOf closed inWords wordsFrom countOf littleEndian seeded newWords table newWord following digestAnswer digestRow codeAnswer codeRow codeNumber digits evened paired packed code firstOf noneOf badWidth badKept badCount badWords badDigits fitRow afterwards fits wholeSum oneWord fullWords kept digest sumTo overRows asNumber count sameRow every differBy keysThatDiffer keysThatGive
+pub every-letter : EveryLetter
+unfolding EveryLetter cases
+every-letter = refl
+
+pub every-case : EveryCase
+unfolding EveryCase agree cases called openAnswer openState pushAnswer pushState readAnswer reading readRow padded fitState addSums lastWords pushed opened noStream wordsOf closed inWords wordsFrom countOf littleEndian seeded newWords table newWord following digestAnswer digestRow codeAnswer codeRow codeNumber digits evened paired packed code firstOf noneOf badWidth badKept badCount badWords badDigits fitRow afterwards fits wholeSum oneWord fullWords kept digest sumTo overRows asNumber count sameRow every differBy keysThatDiffer keysThatGive
 every-case = agree-at cases tt
