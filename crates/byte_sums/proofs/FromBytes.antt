@@ -16,7 +16,7 @@ use Rattle.sums.specs.Sums.{summable, leafSums, leafFit}
 use Rattle.sums.proofs.Summable.{leaf-unfit}
 use Rattle.sums.proofs.Each.{leaf-still}
 use Rattle.byte_sums.specs.Bytes.{littleEndian, wordsFrom, countOf, inWords, closed, wordsOf, wordsIn, Size, sumsFrom, fitFrom, leafBytes, leafBytesFit}
-use Rattle.byte_sums.specs.Closed.{Bytes}
+use Rattle.byte_sums.specs.Closed.{Bytes, BytesFit}
 use Rattle.byte_sums.proofs.Closing.{closed-length, closed-small}
 use Rattle.byte_sums.proofs.Words.{words-length, count-closed}
 
@@ -54,7 +54,15 @@ module _ (w : ℕ) (bad : badByteWidth w ≡ true) where
   unfolding leafBytes leafBytesFit
   sums-elsewhere n xs ks sums = rw bad (refl, refl)
 
--- at a byte width: the words of a message, their number, that they fit, and their sums
+-- at a byte width the words of a message fit
+pub bytes-fit : BytesFit
+unfolding BytesFit wordsOf inWords
+bytes-fit w xs good h =
+    subst (λ (v : ℕ). fits v (wordsFrom (w / 8) (countOf (w / 8) (length (closed xs))) (closed xs)) ≡ true)
+    (byte-width w good .0)
+    (words-small (w / 8) (countOf (w / 8) (length (closed xs))) (closed xs) (closed-small xs h))
+
+-- at a byte width: the words of a message, their number and their sums
 module _ (w : ℕ) (xs : List ℕ) (good : badByteWidth w ≡ false) where
   pub words-of : wordsOf w xs ≡ wordsFrom (w / 8) (length xs / (w / 8) + 1) (closed xs)
   unfolding wordsOf inWords
@@ -68,13 +76,6 @@ module _ (w : ℕ) (xs : List ℕ) (good : badByteWidth w ≡ false) where
   pub words-in : wordsIn w xs ≡ length (wordsOf w xs)
   unfolding wordsIn
   words-in = rw good
-
-  pub bytes-fit : Bytes xs → fits w (wordsOf w xs) ≡ true
-  unfolding wordsOf inWords
-  bytes-fit h =
-      subst (λ (v : ℕ). fits v (wordsFrom (w / 8) (countOf (w / 8) (length (closed xs))) (closed xs)) ≡ true)
-      (byte-width w good .0)
-      (words-small (w / 8) (countOf (w / 8) (length (closed xs))) (closed xs) (closed-small xs h))
 
   pub leaf-bytes : (n : ℕ) (ks sums : List ℕ) → leafBytes w n xs ks sums ≡ leafSums w n (wordsOf w xs) ks sums
   unfolding leafBytes

@@ -1,16 +1,23 @@
--- Why a message of bytes is closed (document 02, "One"): its words then tell it from every other message, zeros after them or not.
--- Document 02, "Four", counts on it.
+-- Why a message of bytes is closed (document 02, "One"): its words then tell it from every other message, zeros after them or not. Document 02, "Four",
+-- counts on it, and on their fitting the width.
 use mathlib.Core.Path.{_≡_}
+use mathlib.Core.Bool.{true, false}
 use mathlib.Core.Logic.{_≢_}
 use mathlib.Core.List.{List, [], _∷_}
 use Prim.Native.Nat.{ℕ, _≤_, _<_}
 use lib.ListN.{length, getD}
+use Rattle.counts.specs.Digest.{fits}
 use Rattle.counts.specs.CommonKey.{filledUp}
+use Rattle.answers.specs.Table.{badByteWidth}
 use Rattle.byte_sums.specs.Bytes.{inWords, wordsOf}
 
 -- a message of bytes, each below 256
 abbrev pub Bytes : List ℕ → Type 0
 Bytes xs = (i : ℕ) → getD xs i 0 < 256
+
+-- the words of bytes fit their width, so that the byte digest tests the key's words alone
+unfoldable pub BytesFit : Type 0
+BytesFit = (w : ℕ) (xs : List ℕ) → badByteWidth w ≡ false → Bytes xs → fits w (wordsOf w xs) ≡ true
 
 -- what a way to make words of bytes should do: two different messages make words that stay different when the shorter row
 -- is filled up with zero words, to any common length T. For every width of a byte or more

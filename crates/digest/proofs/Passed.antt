@@ -12,7 +12,7 @@ use Rattle.answers.proofs.Judged.{passed, width-passed, count-passed, key-passe
 use Rattle.sums.specs.Sums.{leafFit, tests}
 use Rattle.sums.proofs.Summable.{Sums, leaf-fit-all}
 use Rattle.byte_sums.specs.Bytes.{wordsOf, leafBytesFit}
-use Rattle.byte_sums.specs.Closed.{Bytes}
+use Rattle.byte_sums.specs.Closed.{Bytes, BytesFit}
 use Rattle.byte_sums.proofs.FromBytes.{byte-range, bytes-fit, leaf-bytes-fit}
 use Rattle.digest.specs.Words.{digestAnswer}
 use Rattle.digest.specs.Bytes.{bytesAnswer}
@@ -73,7 +73,7 @@ module _ (w b n : ℕ) (xs ks out : List ℕ) {r : ℕ} (j : Judges (bytesShape 
         (p .0, after-width w b n (length (wordsOf w xs)) ks out (byte-range w (p .0)) (p .1))
 
     pub bytes-answered : {fit t : Bool} → Bytes xs → fit ≡ leafBytesFit w n xs ks → fit ≡ t → cond t 0 7 ≡ bytesAnswer w b n xs ks out
-    unfolding bytesAnswer bytesShape firstOf tests
+    unfolding bytesAnswer bytesShape firstOf tests BytesFit
     bytes-answered small e is =
         let p = bytes-passed in
         let key = leaf-bytes-fit w xs (p .0) n ks ∙ leaf-fit-all false w n (wordsOf w xs) ks (p .1 .can) (p .1 .all) in

@@ -15,6 +15,7 @@ use Rattle.counts.proofs.Fits.{fits-parts}
 use Rattle.counts.proofs.Words.{holds}
 use Rattle.answers.proofs.Judged.{passes}
 use Rattle.byte_sums.specs.Bytes.{wordsOf}
+use Rattle.byte_sums.specs.Closed.{BytesFit}
 use Rattle.byte_sums.proofs.FromBytes.{bytes-fit}
 use Rattle.digest.specs.Bytes.{bytesAnswer, bytesRow}
 use Rattle.digest.specs.Match.{matchAnswer}
@@ -24,7 +25,7 @@ use Rattle.unlike_lengths.specs.Calls.{labelCallsThatMatch, FalseLabelCa
 use Rattle.unlike_lengths.proofs.Labels.{false-labels}
 
 pub label-accepted : LabelAccepted
-unfolding LabelAccepted bytesAnswer
+unfolding LabelAccepted bytesAnswer BytesFit
 label-accepted w b n m label ks out r few room good small short k =
     let asked : ℕ = length (wordsOf w label) + n in
     let enough : asked ≤ length ks = omega (arith, k .long) in

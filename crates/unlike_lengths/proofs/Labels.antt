@@ -18,7 +18,7 @@ use Rattle.counts.proofs.CommonKey.{count-filled, filled-row, common-key-bound,
 use Rattle.answers.specs.Table.{badByteWidth}
 use Rattle.answers.proofs.Judged.{byte-width-passed}
 use Rattle.byte_sums.specs.Bytes.{wordsOf}
-use Rattle.byte_sums.specs.Closed.{Bytes, KeepsApart, ClosedApart}
+use Rattle.byte_sums.specs.Closed.{Bytes, BytesFit, KeepsApart, ClosedApart}
 use Rattle.byte_sums.proofs.FromBytes.{bytes-fit}
 use Rattle.byte_sums.proofs.Closed.{closed-apart}
 use Rattle.digest.proofs.FalseMatch.{match-at-most}
@@ -26,6 +26,7 @@ use Rattle.unlike_lengths.specs.Labels.{Labels, labelKeys, labelKeysThat
 
 -- the words of a label fit
 label-row : (w : ℕ) (label : List ℕ) → badByteWidth w ≡ false → Bytes label → Row w (length (wordsOf w label)) (wordsOf w label)
+unfolding BytesFit
 label-row w label good small = record { long = refl; below = rw (bytes-fit w label good small) tt }
 
 -- and are apart, filled up
