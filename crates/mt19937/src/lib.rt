@@ -153,7 +153,7 @@ fn twist_word(far: u32, y: u32) -> u32
     ensures { λ r. ⌜ r ≡ twisted far y ⌝ }
 {
     let word = far ^ (y >> 1);
-    if y % 2 == 1 {
+    if y & 1 == 1 {
         word ^ Generator::TWIST
     } else {
         word
