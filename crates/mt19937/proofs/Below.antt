@@ -1,10 +1,11 @@
--- A generator's words and outputs are below 2^32, however it was made new.
+-- A generator's outputs are below 2^32, and so are its words once it is ready, however it was made new.
 use Prim.Native.Nat.{ℕ, zero, suc, _+_, _*_, _/_, _%_, _^_, _<_}
+use mathlib.Core.Path.{_≡_, refl, sym, ap, subst}
 use mathlib.Core.Bool.{Bool, true, false, cond}
 use mathlib.Core.List.{List, [], _∷_, _++_}
 use native.Mathlib.Nat.{lt-of-le-of-lt, mod-lt}
 use native.Mathlib.Omega.{arith}
-use lib.Bits.{bitAnd, bitXor, xor-lt, or-lt, and-le-l}
+use lib.Bits.{bitAnd, bitXor, xor-lt, or-lt, and-le-l, and-le-r}
 use lib.Dec.{eqb, leb}
 use lib.ListN.{getD, set, replicate}
 use lib.Pow.{pow-pos, shr-le}
@@ -34,6 +35,12 @@ table-below f (suc n) h = append-below (table f n) (f n ∷ []) (table-below f n
     one zero = h n
     one (suc i) = pow-pos 32
 
+-- a table by its first word
+table-first : (f : ℕ → ℕ) (n : ℕ) → table f (suc n) ≡ f zero ∷ table (λ (i : ℕ). f (suc i)) n
+unfolding table
+table-first f zero = refl
+table-first f (suc n) = ap (λ (ws : List ℕ). ws ++ (f (suc n) ∷ [])) (table-first f n)
+
 set-below : (ws : List ℕ) (i v : ℕ) → Below ws → v < 2 ^ 32 → Below (set ws i v)
 set-below [] i v h hv j = none-below j
 set-below (x ∷ ws) zero v h hv zero = hv
@@ -47,11 +54,6 @@ shift-below y k h = lt-of-le-of-lt (shr-le y k) h
 mask-below : (y m : ℕ) → y < 2 ^ 32 → bitAnd y m < 2 ^ 32
 mask-below y m h = lt-of-le-of-lt (and-le-l y m) h
 
-new-below : (seed i : ℕ) → seed < 2 ^ 32 → newWord seed i < 2 ^ 32
-unfolding newWord following
-new-below seed zero h = h
-new-below seed (suc i) h = mod-lt _ (pow-pos 32)
-
 twisted-below : (far y : ℕ) → far < 2 ^ 32 → y < 2 ^ 32 → twisted far y < 2 ^ 32
 unfolding twisted
 twisted-below far y hf hy = xor-lt 32 _ _ (xor-lt 32 far (y / 2 ^ 1) hf (shift-below y 1 hy)) (go (eqb (y % 2) 1))
@@ -60,13 +62,21 @@ twisted-below far y hf hy = xor-lt 32 _ _ (xor-lt 32 far (y / 2 ^ 1) hf (shift-b
     go true = omega arith
     go false = pow-pos 32
 
-joined-below : (this next : ℕ) → this < 2 ^ 32 → next < 2 ^ 32 → joined this next < 2 ^ 32
+-- whatever the two words are, since the masks are below
+joined-below : (this next : ℕ) → joined this next < 2 ^ 32
 unfolding joined
-joined-below this next h k = or-lt 32 _ _ (mask-below this _ h) (mask-below next _ k)
+joined-below this next =
+    or-lt 32 _ _ (lt-of-le-of-lt (and-le-r this 0x8000_0000) (omega arith)) (lt-of-le-of-lt (and-le-r next 0x7FFF_FFFF) (omega arith))
 
 twist-below : (i : ℕ) (ws : List ℕ) → Below ws → Below (twist i ws)
 unfolding twist
-twist-below i ws h = set-below ws i _ h (twisted-below _ _ (h _) (joined-below _ _ (h _) (h _)))
+twist-below i ws h = set-below ws i _ h (twisted-below _ _ (h _) (joined-below _ _))
+
+-- the first step reads one bit of word 0 and replaces it, so nothing is asked of that word
+first-twist-below : (x : ℕ) (ws : List ℕ) → Below ws → Below (twist 0 (x ∷ ws))
+unfolding twist
+first-twist-below x ws h zero = twisted-below _ _ (h 396) (joined-below _ _)
+first-twist-below x ws h (suc i) = h i
 
 -- steps of which each leaves the words below
 steps-below : (f : ℕ → List ℕ → List ℕ) → ((k : ℕ) (ws : List ℕ) → Below ws → Below (f k ws)) → (n : ℕ) (ws : List ℕ) → Below ws → Below (steps f n ws)
@@ -74,16 +84,25 @@ unfolding steps
 steps-below f one zero ws h = h
 steps-below f one (suc n) ws h = one n (steps f n ws) (steps-below f one n ws h)
 
-refill-below : (ws : List ℕ) → Below ws → Below (refill ws)
-unfolding refill
-refill-below ws h = steps-below twist twist-below 624 ws h
+twists-below : (x : ℕ) (ws : List ℕ) → Below ws → (n : ℕ) → Below (steps twist (suc n) (x ∷ ws))
+unfolding steps
+twists-below x ws h zero = first-twist-below x ws h
+twists-below x ws h (suc n) = twist-below (suc n) _ (twists-below x ws h n)
 
-ready-below : (g : Generator) → Below (g .words) → Below (ready g .words)
-unfolding ready
-ready-below g h = go (eqb (g .at) 624)
+refill-below : (x : ℕ) (ws : List ℕ) → Below ws → Below (refill (x ∷ ws))
+unfolding refill
+refill-below x ws h = twists-below x ws h 623
+
+-- a generator whose words are below once it is ready: what its outputs come from
+abbrev pub ReadyBelow : Generator → Type 0
+ReadyBelow g = Below (ready g .words)
+
+words-ready : (g : Generator) → Below (g .words) → ReadyBelow g
+unfolding ready refill
+words-ready g h = go (eqb (g .at) 624)
   where
-    go : (used : Bool) → Below (cond used (record { words = refill (g .words); at = 0 }) g .words)
-    go true = refill-below (g .words) h
+    go : (used : Bool) → Below (cond used (generator (refill (g .words)) 0) g .words)
+    go true = steps-below twist twist-below 624 (g .words) h
     go false = h
 
 temper-below : (y : ℕ) → y < 2 ^ 32 → temper y < 2 ^ 32
@@ -96,14 +115,29 @@ temper-below y h = right 18 _ (left 15 0xEFC6_0000 _ (left 7 0x9D2C_5680 _ (righ
     left : (k m x : ℕ) → x < 2 ^ 32 → bitXor x (bitAnd (x * 2 ^ k % 2 ^ 32) m) < 2 ^ 32
     left k m x b = xor-lt 32 x (bitAnd (x * 2 ^ k % 2 ^ 32) m) b (mask-below (x * 2 ^ k % 2 ^ 32) m (mod-lt (x * 2 ^ k) (pow-pos 32)))
 
--- a generator new from a seed, or from an array of seed words of any size
-filled-below : (seed : ℕ) → seed < 2 ^ 32 → Below (newWords seed 624)
-unfolding newWords
-filled-below seed h = table-below (newWord seed) 624 (λ i. new-below seed i h)
+-- a state filled from a seed: the seed, and the words that follow
+unfoldable laterWords : ℕ → List ℕ
+laterWords seed = table (λ (i : ℕ). newWord seed (suc i)) 623
 
-pub seeded-below : (seed : ℕ) → seed < 2 ^ 32 → Below (seeded seed .words)
-unfolding seeded
-seeded-below seed h = filled-below seed h
+filled : (seed : ℕ) → newWords seed 624 ≡ seed ∷ laterWords seed
+unfolding newWords newWord laterWords
+filled seed = table-first (newWord seed) 623
+
+later-below : (seed : ℕ) → Below (laterWords seed)
+unfolding laterWords newWord following
+later-below seed = table-below _ 623 (λ i. mod-lt _ (pow-pos 32))
+
+-- a generator new from a seed of any size, or from an array of seed words of any size
+pub seeded-below : (seed : ℕ) → ReadyBelow (seeded seed)
+unfolding seeded ready
+seeded-below seed = subst (λ (ws : List ℕ). Below (refill ws)) (sym (filled seed)) (refill-below seed (laterWords seed) (later-below seed))
+
+filled-below : (seed : ℕ) → seed < 2 ^ 32 → Below (newWords seed 624)
+filled-below seed h = subst Below (sym (filled seed)) whole
+  where
+    whole : Below (seed ∷ laterWords seed)
+    whole zero = h
+    whole (suc i) = later-below seed i
 
 put-below : (i word : ℕ) (ws : List ℕ) → Below ws → word < 2 ^ 32 → Below (put i word ws)
 unfolding put
@@ -137,21 +171,21 @@ zeros-below zero i = pow-pos 32
 zeros-below (suc n) zero = pow-pos 32
 zeros-below (suc n) (suc i) = zeros-below n i
 
-pub arrayed-below : (seed : List ℕ) → Below (arrayed seed .words)
+pub arrayed-below : (seed : List ℕ) → ReadyBelow (arrayed seed)
 unfolding arrayed noGenerator
-arrayed-below seed = go (eqb (arrayAnswer seed) 0)
+arrayed-below seed = words-ready (arrayed seed) (go (eqb (arrayAnswer seed) 0))
   where
     go : (accepted : Bool) → Below (cond accepted (generator (arrayWords seed) 624) noGenerator .words)
     go true = array-below seed
     go false = zeros-below 624
 
 -- an output, and the state after it
-pub next-below : (g : Generator) → Below (g .words) → (nextOf g .word < 2 ^ 32) × Below (nextOf g .state .words)
+pub next-below : (g : Generator) → ReadyBelow g → (nextOf g .word < 2 ^ 32) × ReadyBelow (nextOf g .state)
 unfolding nextOf taken
 next-below g h = go (eqb (nextAnswer g) 0)
   where
     go : (fit : Bool)
         → let n = cond fit (taken (ready g)) (record { answer = nextAnswer g; word = 0; state = g }) in
-        (n .word < 2 ^ 32) × Below (n .state .words)
-    go true = (temper-below _ (ready-below g h _), ready-below g h)
+        (n .word < 2 ^ 32) × ReadyBelow (n .state)
+    go true = (temper-below _ (h _), words-ready (taken (ready g) .state) h)
     go false = (pow-pos 32, h)

@@ -1,9 +1,10 @@
--- A one-word array is not the plain seed: its first state word is 2^31, the seed's is the seed.
+-- A one-word array is not the plain seed: its first state word is 2^31, the seed's is the seed. And which bit of that word a next reads.
 use Prim.Native.Nat.{ℕ, zero, suc, _+_}
 use mathlib.Core.Path.{_≡_, refl, sym, ap, _∙_}
 use mathlib.Core.Bool.{Bool, true, false, cond}
 use mathlib.Core.List.{List, [], _∷_, append-nil}
 use native.Mathlib.Omega.{arith}
+use lib.Bits.{bitAnd, and-comm, and-shifted}
 use lib.Dec.{leb}
 use lib.ListN.{getD, set, length, length-set}
 use lib.Seq.{getD-set-same}
@@ -11,8 +12,8 @@ use Rattle.rows.specs.Written.{table}
 use Rattle.rows.proofs.Written.{length-table, table-at}
 use Rattle.answers.specs.Answers.{firstOf}
 use Rattle.answers.specs.Table.{badSeed}
-use Rattle.mt19937.specs.Published.{steps, newWord, newWords, seeded}
-use Rattle.mt19937.specs.SeedArray.{put, seedStep, indexStep, arrayWords, arrayAnswer, arrayed, OneWordIsNoSeed}
+use Rattle.mt19937.specs.Published.{steps, generator, newWord, newWords, seeded, joined, twist, refill, ready, taken, nextAnswer, nextOf}
+use Rattle.mt19937.specs.SeedArray.{put, seedStep, indexStep, arrayWords, arrayAnswer, arrayed, OneWordIsNoSeed, LowBitsUnread, OneWordTopBit}
 use Rattle.mt19937.specs.declared.Generator.{Generator}
 
 put-long : (i word : ℕ) (ws : List ℕ) → length (put i word ws) ≡ length ws
@@ -48,3 +49,24 @@ pub one-word-is-no-seed : OneWordIsNoSeed
 unfolding OneWordIsNoSeed arrayed arrayAnswer firstOf badSeed seeded
 one-word-is-no-seed seed ne e =
     ne (sym (sym (first-of-array (seed ∷ [])) ∙ ap (λ (g : Generator). getD (g .words) 0 0) e ∙ first-of-seed seed))
+
+pub one-word-top-bit : OneWordTopBit
+unfolding OneWordTopBit arrayed arrayAnswer firstOf badSeed seeded
+one-word-top-bit seed h = (
+  ap (λ (x : ℕ). bitAnd x 0x8000_0000) (first-of-array (seed ∷ [])),
+  ap (λ (x : ℕ). bitAnd x 0x8000_0000) (first-of-seed seed) ∙ and-comm seed 0x8000_0000 ∙ and-shifted 1 31 seed h,
+)
+
+same-first-twist : (this other : ℕ) (ws : List ℕ) → bitAnd this 0x8000_0000 ≡ bitAnd other 0x8000_0000 → twist 0 (this ∷ ws) ≡ twist 0 (other ∷ ws)
+unfolding twist joined
+same-first-twist this other ws e = rw e
+
+same-twists : (this other : List ℕ) → twist 0 this ≡ twist 0 other → (n : ℕ) → steps twist (suc n) this ≡ steps twist (suc n) other
+unfolding steps
+same-twists this other e zero = e
+same-twists this other e (suc n) = ap (twist (suc n)) (same-twists this other e n)
+
+pub low-bits-unread : LowBitsUnread
+unfolding LowBitsUnread nextOf nextAnswer firstOf ready refill
+low-bits-unread this other ws e =
+    ap (λ (x : List ℕ). taken (generator x 0)) (same-twists (this ∷ ws) (other ∷ ws) (same-first-twist this other ws e) 623)

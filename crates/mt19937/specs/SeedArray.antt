@@ -1,15 +1,16 @@
--- MT19937 made new from an array of seed words (document 02, "Seven"), by its published initialisation by array: the two indices, the two loops and
--- the last line of that page, in its order. Words have 32 bits, so products and sums are modulo 2 ^ 32.
-use Prim.Native.Nat.{ℕ, zero, suc, _+_, _-_, _*_, _/_, _%_, _^_}
+-- MT19937 made new from an array of seed words (document 02, "Seven"), by its published initialisation by array: the function `init_by_array` of Matsumoto
+-- and Nishimura's mt19937ar.c of 2002, which is the page that is spoken of below. Its two indices, its two loops and its last line, in its order. Words have
+-- 32 bits, so products and sums are modulo 2 ^ 32.
+use Prim.Native.Nat.{ℕ, zero, suc, _+_, _-_, _*_, _/_, _%_, _^_, _<_}
 use mathlib.Core.Path.{_≡_}
 use mathlib.Core.Bool.{cond}
 use mathlib.Core.List.{List, [], _∷_}
-use lib.Bits.{bitXor}
+use lib.Bits.{bitAnd, bitXor}
 use lib.Dec.{eqb, leb}
 use lib.ListN.{getD, set, length, replicate}
 use Rattle.answers.specs.Answers.{firstOf}
 use Rattle.answers.specs.Table.{seedTest}
-use Rattle.mt19937.specs.Published.{steps, generator, newWords, seeded}
+use Rattle.mt19937.specs.Published.{steps, generator, newWords, seeded, nextOf}
 use Rattle.mt19937.specs.declared.Generator.{Generator}
 use Rattle.mt19937.specs.declared.Made.{Made}
 
@@ -74,6 +75,20 @@ arrayed seed = cond (eqb (arrayAnswer seed) 0) (generator (arrayWords seed) 624)
 unfoldable pub made : List ℕ → Made
 made seed = record { answer = arrayAnswer seed; state = arrayed seed }
 
--- 02, "Seven": a one-word array is not the plain seed. Said of every word but 2^31, with which both first state words agree
+-- 02, "Seven": a one-word array is not the plain seed. Said of the states, by word 0, and of every seed but 2^31, with which both have the same word 0. It is no
+-- statement about outputs: of word 0 they depend on one bit, as the next says
 unfoldable pub OneWordIsNoSeed : Type 0
 OneWordIsNoSeed = (seed : ℕ) → (seed ≡ 0x8000_0000 → ⊥) → arrayed (seed ∷ []) ≡ seeded seed → ⊥
+
+-- of word 0 a next from position 624 reads the top bit alone: whatever the low 31 bits are, it gives the same word and the same state
+unfoldable pub LowBitsUnread : Type 0
+LowBitsUnread =
+    (this other : ℕ) (ws : List ℕ) → bitAnd this 0x8000_0000 ≡ bitAnd other 0x8000_0000
+    → nextOf (generator (this ∷ ws) 624) ≡ nextOf (generator (other ∷ ws) 624)
+
+-- 02, "Seven": that bit is 1 in every one-word array and 0 in a plain seed below 2^31. From 2^31 on it is 1 in both. That outputs differ is not said here either
+unfoldable pub OneWordTopBit : Type 0
+OneWordTopBit =
+    (seed : ℕ) → seed < 2 ^ 31
+    → (bitAnd (getD (arrayed (seed ∷ []) .words) 0 0) 0x8000_0000 ≡ 0x8000_0000)
+    × (bitAnd (getD (seeded seed .words) 0 0) 0x8000_0000 ≡ 0)

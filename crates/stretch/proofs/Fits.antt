@@ -11,7 +11,7 @@ use Rattle.answers.proofs.Rows.{accepted-row}
 use Rattle.mt19937.specs.Published.{seeded, nextOf}
 use Rattle.mt19937.specs.SeedArray.{arrayed}
 use Rattle.mt19937.specs.declared.Generator.{Generator}
-use Rattle.mt19937.proofs.Below.{Below, seeded-below, arrayed-below, next-below}
+use Rattle.mt19937.proofs.Below.{ReadyBelow, seeded-below, arrayed-below, next-below}
 use Rattle.stretch.specs.Stretch.{outputs, after, keyWord, keyRow, stretched, stretchedArray, StretchedFits, StretchedArrayFits}
 use Rattle.stretch.specs.Load.{loadKey, loadMessage, loadArrayKey, loadArrayMessage, LoadFits, LoadArrayFits}
 use Rattle.stretch.proofs.Rows.{row-whole}
@@ -23,23 +23,23 @@ key-word-below w output h b =
     let whole : 32 ≡ w + (32 - w) = omega arith in
     shr-lt w (32 - w) (subst (λ (k : ℕ). output < 2 ^ k) whole b)
 
-row-below : (w n : ℕ) (g : Generator) → w ≤ 32 → Below (g .words) → fits w (keyRow w g n) ≡ true
+row-below : (w n : ℕ) (g : Generator) → w ≤ 32 → ReadyBelow g → fits w (keyRow w g n) ≡ true
 unfolding keyRow outputs fits
 row-below w zero g h b = refl
 row-below w (suc n) g h b =
     let next = next-below g b in
     rw (lt-ltb (keyWord w (nextOf g .word)) (2 ^ w) (key-word-below w _ h (next .0))) (row-below w n (nextOf g .state) h (next .1))
 
-after-below : (n : ℕ) (g : Generator) → Below (g .words) → Below (after n g .words)
+after-below : (n : ℕ) (g : Generator) → ReadyBelow g → ReadyBelow (after n g)
 unfolding after
 after-below zero g b = b
 after-below (suc n) g b = after-below n (nextOf g .state) (next-below g b .1)
 
 pub stretched-fits : StretchedFits
 unfolding StretchedFits stretched
-stretched-fits w seed row h e =
+stretched-fits w seed row e =
     ap (fits w) (accepted-row _ _ row e ∙ sym (row-whole w (seeded seed) row))
-    ∙ row-below w (length row) (seeded seed) (load-width w 1 (length row) 0 (of-both w (length row) ∙ e) .1) (seeded-below seed h)
+    ∙ row-below w (length row) (seeded seed) (load-width w 1 (length row) 0 (of-both w (length row) ∙ e) .1) (seeded-below seed)
 
 pub stretched-array-fits : StretchedArrayFits
 unfolding StretchedArrayFits stretchedArray
@@ -49,9 +49,9 @@ stretched-array-fits w seed row e =
 
 pub load-fits : LoadFits
 unfolding LoadFits loadKey loadMessage
-load-fits w seed key message h e =
+load-fits w seed key message e =
     let g = seeded seed in
-    let b = seeded-below seed h in
+    let b = seeded-below seed in
     let fit = load-width w 1 (length key) (length message) (of-a-seed w (length key) (length message) ∙ e) .1 in (
       ap (fits w) (key-after w g key message _ e) ∙ row-below w (length key) g fit b,
       ap (fits w) (message-after w g key message _ e) ∙ row-below w (length message) _ fit (after-below (length key) g b),

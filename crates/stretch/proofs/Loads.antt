@@ -1,23 +1,22 @@
--- The four answers are one, and the two rows of a load are one row cut in two.
+-- The four answers are one, and the two rows of a load, laid end to end, are one row.
 use Prim.Native.Nat.{ℕ, _+_, _≤_}
 use mathlib.Core.Path.{_≡_, refl, sym, ap, _∙_}
 use mathlib.Core.Bool.{Bool, true, false, cond}
 use mathlib.Core.List.{List, [], _∷_, _++_}
 use native.Mathlib.Omega.{arith}
 use lib.Dec.{eqb}
-use lib.ListN.{length, take, drop}
-use lib.Seq.{take-at, drop-at}
+use lib.ListN.{length}
 use Rattle.answers.specs.Answers.{firstOf}
 use Rattle.answers.specs.Table.{badWidth, badSeed, tooLong, seedTest, longTest, longStretchTest}
 use Rattle.answers.proofs.Judged.{passed, width-passed}
-use Rattle.answers.proofs.Rows.{accepted-row, refused, accepted}
+use Rattle.answers.proofs.Rows.{accepted-row, refused}
 use Rattle.mt19937.specs.Published.{generator, seeded}
 use Rattle.mt19937.specs.SeedArray.{arrayWords, arrayAnswer, noGenerator, arrayed, made}
 use Rattle.mt19937.specs.declared.Generator.{Generator}
 use Rattle.mt19937.specs.declared.Made.{Made}
 use Rattle.stretch.specs.Stretch.{after, keyRow, stretchAnswer, stretched, stretchArrayAnswer, stretchedArray}
-use Rattle.stretch.specs.Load.{loadAnswer, loadArrayAnswer, loadRow, keyAfter, messageAfter, loadKey, loadMessage, loadArrayKey, loadArrayMessage, LoadGoesOn, LoadArrayGoesOn}
-use Rattle.stretch.proofs.Rows.{row-more, row-length, row-whole}
+use Rattle.stretch.specs.Load.{loadAnswer, loadArrayAnswer, keyAfter, messageAfter, loadKey, loadMessage, loadArrayKey, loadArrayMessage, LoadGoesOn, LoadArrayGoesOn}
+use Rattle.stretch.proofs.Rows.{row-more, row-whole}
 
 -- a plain seed is tested as one word, and a stretch as a load without a message
 module _ (w keyWords : ℕ) where
@@ -50,48 +49,33 @@ module _ (w seedWords keyWords messageWords : ℕ) (e : loadArrayAnswer w seedWo
   unfolding stretchArrayAnswer firstOf
   load-stretches = rw (tests .0, tests .1, tests .2)
 
--- the two parts of the one row
+-- the two rows of a load
 module _ (w : ℕ) (g : Generator) (key message : List ℕ) where
-  long : length (keyRow w g (length key)) ≡ length key
-  long = row-length w (length key) g
-
-  pub key-part : take (length key) (loadRow w g key message) ≡ keyRow w g (length key)
-  unfolding loadRow
-  key-part = ap (take (length key)) (row-more w (length key) (length message) g) ∙ take-at _ _ (length key) long
-
-  pub message-part : drop (length key) (loadRow w g key message) ≡ keyRow w (after (length key) g) (length message)
-  unfolding loadRow
-  message-part = ap (drop (length key)) (row-more w (length key) (length message) g) ∙ drop-at (keyRow w g (length key)) _ (length key) long
-
-  -- each fills the whole of its row
-  key-whole : let row = take (length key) (loadRow w g key message) in row ≡ row ++ drop (length row) key
-  key-whole = rw key-part (row-whole w g key)
-
-  message-whole : let row = drop (length key) (loadRow w g key message) in row ≡ row ++ drop (length row) message
-  message-whole = rw message-part (row-whole w (after (length key) g) message)
-
   -- what an accepted load leaves
-  pub key-after : (answer : ℕ) → answer ≡ 0 → keyAfter answer w g key message ≡ keyRow w g (length key)
+  pub key-after : (answer : ℕ) → answer ≡ 0 → keyAfter answer w g key ≡ keyRow w g (length key)
   unfolding keyAfter
-  key-after answer e = accepted-row answer _ key e ∙ sym key-whole ∙ key-part
+  key-after answer e = accepted-row answer _ key e ∙ sym (row-whole w g key)
 
   pub message-after : (answer : ℕ) → answer ≡ 0 → messageAfter answer w g key message ≡ keyRow w (after (length key) g) (length message)
   unfolding messageAfter
-  message-after answer e = accepted-row answer _ message e ∙ sym message-whole ∙ message-part
+  message-after answer e = accepted-row answer _ message e ∙ sym (row-whole w (after (length key) g) message)
+
+  -- laid end to end
+  rows-after : (answer : ℕ) → answer ≡ 0 → keyAfter answer w g key ++ messageAfter answer w g key message ≡ keyRow w g (length key + length message)
+  rows-after answer e = rw (key-after answer e, message-after answer e) (sym (row-more w (length key) (length message) g))
 
   -- r is the number that the call's tests gave
   module _ {answer r : ℕ} (judged : r ≡ answer) where
-    pub load-refused : (r ≡ 0 → ⊥)
-        → (r ≡ answer) × (key ≡ keyAfter answer w g key message) × (message ≡ messageAfter answer w g key message)
+    pub load-refused : (r ≡ 0 → ⊥) → (r ≡ answer) × (key ≡ keyAfter answer w g key) × (message ≡ messageAfter answer w g key message)
     unfolding keyAfter messageAfter
     load-refused ne = (judged, refused _ key judged ne .1, refused _ message judged ne .1)
 
     pub load-accepted : {keyRow′ messageRow′ : List ℕ} → r ≡ 0
-        → (keyRow′ ≡ take (length key) (loadRow w g key message)) × (messageRow′ ≡ drop (length key) (loadRow w g key message))
-        → (0 ≡ answer) × (keyRow′ ≡ keyAfter answer w g key message) × (messageRow′ ≡ messageAfter answer w g key message)
-    unfolding keyAfter messageAfter
+        → (keyRow′ ≡ keyRow w g (length key)) × (messageRow′ ≡ keyRow w (after (length key) g) (length message))
+        → (0 ≡ answer) × (keyRow′ ≡ keyAfter answer w g key) × (messageRow′ ≡ messageAfter answer w g key message)
     load-accepted z wrote =
-        (sym z ∙ judged, accepted _ key judged _ z (wrote .0 ∙ key-whole) .1, accepted _ message judged _ z (wrote .1 ∙ message-whole) .1)
+        let zero′ = sym judged ∙ z in
+        (sym z ∙ judged, wrote .0 ∙ sym (key-after answer zero′), wrote .1 ∙ sym (message-after answer zero′))
 
 -- a new generator has a position that a row can start from
 pub seeded-fit : (seed : ℕ) {g : Generator} → g ≡ seeded seed → g .at ≤ 624
@@ -116,7 +100,7 @@ load-goes-on w seed key message e =
     let stretches = sym (of-both w (length key)) ∙ of-a-stretch w (length key) 1 ∙ load-stretches w 1 (length key) (length message) (of-a-seed w (length key) (length message) ∙ e) in
     let g = seeded seed in (
       key-after w g key message _ e ∙ sym (accepted-row _ _ key stretches ∙ sym (row-whole w g key)),
-      message-after w g key message _ e,
+      rows-after w g key message _ e,
     )
 
 pub load-array-goes-on : LoadArrayGoesOn
@@ -124,5 +108,5 @@ unfolding LoadArrayGoesOn loadArrayKey loadArrayMessage stretchedArray
 load-array-goes-on w seed key message e =
     let g = arrayed seed in (
       key-after w g key message _ e ∙ sym (accepted-row _ _ key (load-stretches w (length seed) (length key) (length message) e) ∙ sym (row-whole w g key)),
-      message-after w g key message _ e,
+      rows-after w g key message _ e,
     )

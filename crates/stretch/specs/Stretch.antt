@@ -1,6 +1,6 @@
 -- Rows of key words and the stretch of a seed, as document 01 has them, each word cut from an output as document 02, "Six", says; and the stretch
 -- of a seed array, of document 02, "Seven". For each the row that it writes, and what it answers.
-use Prim.Native.Nat.{ℕ, zero, suc, _+_, _-_, _/_, _^_, _<_}
+use Prim.Native.Nat.{ℕ, zero, suc, _+_, _-_, _/_, _^_}
 use mathlib.Core.Path.{_≡_}
 use mathlib.Core.Bool.{true}
 use mathlib.Core.List.{List, [], _∷_, _++_, map}
@@ -56,7 +56,7 @@ stretchedArray w seed row = afterwards (stretchArrayAnswer w (length seed) (leng
 
 -- 01, The sum, has key words below 2^w: an accepted stretch leaves no others, so no digest of that width refuses its row as Word
 unfoldable pub StretchedFits : Type 0
-StretchedFits = (w seed : ℕ) (row : List ℕ) → seed < 2 ^ 32 → stretchAnswer w (length row) ≡ 0 → fits w (stretched w seed row) ≡ true
+StretchedFits = (w seed : ℕ) (row : List ℕ) → stretchAnswer w (length row) ≡ 0 → fits w (stretched w seed row) ≡ true
 
 -- 02, "Seven": the same of a seed array
 unfoldable pub StretchedArrayFits : Type 0

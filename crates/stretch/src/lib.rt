@@ -1,9 +1,9 @@
 // Rows of key words from a seed or an array of seed words: the stretch of one row, and the load of a key row and a message row.
 ghost use mathlib.Core.Path.{_≡_};
 ghost use Prim.Native.Nat.{_≤_};
-ghost use lib.ListN.{length, take, drop};
-ghost use Rattle.stretch.specs.Stretch.{keyRow, stretchAnswer, stretched, stretchArrayAnswer, stretchedArray};
-ghost use Rattle.stretch.specs.Load.{loadAnswer, loadArrayAnswer, loadRow, loadKey, loadMessage, loadArrayKey, loadArrayMessage};
+ghost use lib.ListN.{length};
+ghost use Rattle.stretch.specs.Stretch.{after, keyRow, stretchAnswer, stretched, stretchArrayAnswer, stretchedArray};
+ghost use Rattle.stretch.specs.Load.{loadAnswer, loadArrayAnswer, loadKey, loadMessage, loadArrayKey, loadArrayMessage};
 use mt19937::Generator;
 
 mod keys;
@@ -100,8 +100,8 @@ fn write_row(w: u32, g: Generator, out: &mut [u32])
 fn write_rows(w: u32, g: Generator, key: &mut [u32], message: &mut [u32])
     requires { ⌜ (1 ≤ w) × (w ≤ 32) × (g .at ≤ 624) ⌝ }
     ensures { λ _. ⌜
-        (now (key .exit) ≡ take (length (now (key .entry))) (loadRow w g (now (key .entry)) (now (message .entry))))
-        × (now (message .exit) ≡ drop (length (now (key .entry))) (loadRow w g (now (key .entry)) (now (message .entry))))
+        (now (key .exit) ≡ keyRow w g (length (now (key .entry))))
+        × (now (message .exit) ≡ keyRow w (after (length (now (key .entry))) g) (length (now (message .entry))))
         ⌝ }
 {
     let mut words = g.words;

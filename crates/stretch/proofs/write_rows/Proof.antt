@@ -1,7 +1,6 @@
 -- `write_rows` meets its contract: the second row goes on with the state that the first has left.
-use mathlib.Core.Path.{sym, _∙_}
+use mathlib.Core.Path.{_∙_}
 use borrow.Author.Needs.{needs}
-use Rattle.stretch.proofs.Loads.{key-part, message-part}
 use Rattle.stretch.proofs.write_rows.Statement.{statement}
 use Rattle.stretch.proofs.write_rows.Tie as tie
 
@@ -21,11 +20,8 @@ returns : tie.Need-returns
 returns c =
     let second = c .before .before in
     let first = second .before .before .before .before .before in
-    let args = first .before .before .before .before .before .before .args in
     let row = first .key-row .ensures in
-    let key = args .key .now in
-    let message = args .message .now in
-    (row .0 ∙ sym (key-part _ (args .g) key message), second .key-row2 .ensures .0 ∙ rw (row .1) (sym (message-part _ (args .g) key message)))
+    (row .0, second .key-row2 .ensures .0 ∙ rw (row .1))
 
 pub write-rows-spec : {M : Type 1} → statement M
 write-rows-spec =
