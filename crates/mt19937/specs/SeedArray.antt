@@ -75,18 +75,18 @@ arrayed seed = cond (eqb (arrayAnswer seed) 0) (generator (arrayWords seed) 624)
 unfoldable pub made : List ℕ → Made
 made seed = record { answer = arrayAnswer seed; state = arrayed seed }
 
--- 02, "Seven": a one-word array is not the plain seed. Said of the states, by word 0, and of every seed but 2^31, with which both have the same word 0. It is no
--- statement about outputs: of word 0 they depend on one bit, as the next says
+-- 02, "Seven": a one-word array is not the plain seed. Said of the states, by word 0, and of every seed but 2^31, with which both have the same word 0. Of the
+-- outputs it says nothing: the low 31 bits of word 0 reach none, and a state that differed from the seed's in these alone would have the seed's outputs
 unfoldable pub OneWordIsNoSeed : Type 0
 OneWordIsNoSeed = (seed : ℕ) → (seed ≡ 0x8000_0000 → ⊥) → arrayed (seed ∷ []) ≡ seeded seed → ⊥
 
--- of word 0 a next from position 624 reads the top bit alone: whatever the low 31 bits are, it gives the same word and the same state
+-- that is: from position 624, of word 0 the next depends on the top bit alone, with the word that it gives and the state after it
 unfoldable pub LowBitsUnread : Type 0
 LowBitsUnread =
     (this other : ℕ) (ws : List ℕ) → bitAnd this 0x8000_0000 ≡ bitAnd other 0x8000_0000
     → nextOf (generator (this ∷ ws) 624) ≡ nextOf (generator (other ∷ ws) 624)
 
--- 02, "Seven": that bit is 1 in every one-word array and 0 in a plain seed below 2^31. From 2^31 on it is 1 in both. That outputs differ is not said here either
+-- 02, "Seven": for a seed below 2^31 that bit is 1 in the state of the array and 0 in the state of the seed. That the outputs differ is not said here either
 unfoldable pub OneWordTopBit : Type 0
 OneWordTopBit =
     (seed : ℕ) → seed < 2 ^ 31

@@ -31,7 +31,7 @@ fn print_outputs(seed: u32, from: u64, to: u64) {
     }
 }
 
-// All words in one, each at its own turn of the bits.
+// All words in one, each turned by as many bits as words follow it; those 32 apart are turned alike.
 fn folded(words: [u32; 624]) -> u32 {
     let mut fold: u32 = 0;
     for i in 0..624 {

@@ -34,6 +34,10 @@ unfolding keyRow outputs
 row-length w zero g = refl
 row-length w (suc n) g = ap suc (row-length w n (nextOf g .state))
 
+-- a row is known by the state that it is drawn from
+pub row-of : (w n : ℕ) {g g′ : Generator} {row : List ℕ} → g ≡ g′ → row ≡ keyRow w g n → row ≡ keyRow w g′ n
+row-of w n e wrote = wrote ∙ ap (λ (x : Generator). keyRow w x n) e
+
 -- a row that fills the whole of an old one leaves nothing of it
 pub row-whole : (w : ℕ) (g : Generator) (old : List ℕ) → let row = keyRow w g (length old) in row ≡ row ++ drop (length row) old
 row-whole w g old = sym (rw (row-length w (length old) g, drop-length old) (append-nil (keyRow w g (length old))))

@@ -1,6 +1,6 @@
 -- `write_rows` meets its contract: the second row goes on with the state that the first has left.
-use mathlib.Core.Path.{_∙_}
 use borrow.Author.Needs.{needs}
+use Rattle.stretch.proofs.Rows.{row-of}
 use Rattle.stretch.proofs.write_rows.Statement.{statement}
 use Rattle.stretch.proofs.write_rows.Tie as tie
 
@@ -21,7 +21,7 @@ returns c =
     let second = c .before .before in
     let first = second .before .before .before .before .before in
     let row = first .key-row .ensures in
-    (row .0, second .key-row2 .ensures .0 ∙ rw (row .1))
+    (row .0, row-of _ _ (row .1) (second .key-row2 .ensures .0))
 
 pub write-rows-spec : {M : Type 1} → statement M
 write-rows-spec =
