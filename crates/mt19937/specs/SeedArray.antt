@@ -80,7 +80,7 @@ made seed = record { answer = arrayAnswer seed; state = arrayed seed }
 unfoldable pub OneWordIsNoSeed : Type 0
 OneWordIsNoSeed = (seed : ℕ) → (seed ≡ 0x8000_0000 → ⊥) → arrayed (seed ∷ []) ≡ seeded seed → ⊥
 
--- that is: from position 624, of word 0 the next depends on the top bit alone, with the word that it gives and the state after it
+-- that is: the output from position 624, and the state after it, depend on word 0 by its top bit alone
 unfoldable pub LowBitsUnread : Type 0
 LowBitsUnread =
     (this other : ℕ) (ws : List ℕ) → bitAnd this 0x8000_0000 ≡ bitAnd other 0x8000_0000
