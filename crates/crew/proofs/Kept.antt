@@ -83,8 +83,7 @@ module _ (w b n : ℕ) (ms ks : List ℕ) (narrow : w ≤ 32) (fewer : b ≤ w) 
       table-same (λ i. getD row i 0 % 2 ^ b) (λ i. wholeSum w ms (drop i (take size own)) % 2 ^ w % 2 ^ b) n
       (λ i lt.
       let sum : ℕ = wholeSum w ms (drop i own) in
-      sym (reduced b 64 (getD row i 0) (omega arith))
-      ∙ ap (λ (x : ℕ). x % 2 ^ b) (raised .1 i lt)
+      ap (λ (x : ℕ). x % 2 ^ b) (raised .1 i lt)
       ∙ ap (λ (x : ℕ). (x + sum) % 2 ^ 64 % 2 ^ b) (getD-replicate 8 i 0 0 (omega arith))
       ∙ ap (λ (x : ℕ). x % 2 ^ 64 % 2 ^ b) (zero-add sum)
       ∙ reduced b 64 sum (omega arith)

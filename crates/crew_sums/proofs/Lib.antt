@@ -1,3 +1,3 @@
 pub mod Rise
-pub mod Groups
+pub mod Pairs
 pub mod Suffices

@@ -1,21 +1,21 @@
 -- Rows of sums: one word more, a message in two parts, and rows peer by peer.
 -- Assumes nothing.
-use mathlib.Core.Path.{_≡_, refl, sym, ap, subst, _∙_}
+use mathlib.Core.Path.{_≡_, refl, sym, ap, ap₂, subst, _∙_}
 use mathlib.Core.List.{List, [], _∷_, _++_}
 use Prim.Native.Nat.{ℕ, _+_, _-_, _*_, _/_, _%_, _^_, _≤_, _<_}
-use native.Mathlib.Nat.{le-refl, add-zero, add-assoc, mod-mod, mod-add-mod}
-use native.Mathlib.Numerals.{add-one}
+use native.Mathlib.Nat.{le-refl, add-assoc, add-mod, add-mod-mod, mod-add-mod}
 use native.Mathlib.Decide.{ℕ-discrete}
 use native.Mathlib.Omega.{arith}
-use lib.ListN.{length, getD, set, take, drop, length-set}
-use lib.Seq.{take-suc, length-take-le, getD-append-add, getD-drop, getD-set-same, getD-set-other}
+use lib.ListN.{length, getD, set, drop, replicate, length-set, length-replicate, getD-replicate}
+use lib.Seq.{drop-drop, getD-append-add, getD-drop, getD-set-same, getD-set-other}
 use Rattle.rows.specs.Written.{table, written}
 use Rattle.rows.proofs.Written.{length-table, table-at, written-long}
 use Rattle.counts.specs.Digest.{wholeSum}
 use Rattle.counts.proofs.Laws.{sum-append}
 use Rattle.sums.proofs.Each.{drop-swap}
+use Rattle.walk.specs.Walk.{added}
 use Rattle.walk.proofs.Left.{word-sum}
-use Rattle.crew_sums.specs.Crew.{Raised, AllRaised, Sixteen}
+use Rattle.crew_sums.specs.Crew.{Raised, AllRaised, zeros}
 
 -- what a row that is written up to n holds beyond
 pub written-beyond : (f : ℕ → ℕ) (n i : ℕ) (old : List ℕ) → n ≤ i → getD (written f n old) i 0 ≡ getD old i 0
@@ -27,30 +27,50 @@ written-beyond f n i old le =
     ∙ getD-drop n old (i - n) 0
     ∙ ap (λ (k : ℕ). getD old k 0) place′
 
--- the row as the code writes it for the word m, place by place
-module _ (w m : ℕ) (part old : List ℕ) where
-  unfoldable pub newSum : ℕ → ℕ
-  newSum i = ((getD old i 0 + m * getD part i 0) % 2 ^ 64 + m * getD part (i + 1) 0 / 2 ^ w) % 2 ^ 64
+-- what two words add
+two-sum : (w first second : ℕ) (ks : List ℕ) (i : ℕ) → added w ks i first + added w ks (i + 1) second ≡ wholeSum w (first ∷ second ∷ []) (drop i ks)
+two-sum w first second ks i =
+    ap₂ (λ (x y : ℕ). x + y) (word-sum w first ks i) (word-sum w second ks (i + 1) ∙ ap (wholeSum w (second ∷ [])) (sym (drop-drop 1 i ks)))
+    ∙ sym (sum-append w (first ∷ []) (second ∷ []) (drop i ks))
 
-  pub word-raised : (n : ℕ) (new : List ℕ) → n ≤ 8 → length old ≡ 8 → new ≡ written newSum n old → Raised w n (m ∷ []) part old new
+-- that number as the code makes it, modulo 2^64 at each step
+pub one-adds : (w m : ℕ) (ks : List ℕ) (i : ℕ) {t : ℕ} → t ≡ added w ks i m % 2 ^ 64 → t ≡ wholeSum w (m ∷ []) (drop i ks) % 2 ^ 64
+one-adds w m ks i e = e ∙ ap (λ (x : ℕ). x % 2 ^ 64) (word-sum w m ks i)
+
+pub two-adds : (w first second : ℕ) (ks : List ℕ) (i : ℕ) {one other t : ℕ} → t ≡ (one + other) % 2 ^ 64
+    → one ≡ added w ks i first % 2 ^ 64
+    → other ≡ added w ks (i + 1) second % 2 ^ 64
+    → t ≡ wholeSum w (first ∷ second ∷ []) (drop i ks) % 2 ^ 64
+two-adds w first second ks i e e₁ e₂ =
+    e
+    ∙ ap₂ (λ (x y : ℕ). (x + y) % 2 ^ 64) e₁ e₂
+    ∙ sym (add-mod (added w ks i first) (added w ks (i + 1) second) (2 ^ 64))
+    ∙ ap (λ (x : ℕ). x % 2 ^ 64) (two-sum w first second ks i)
+
+-- a row as the code writes it, place by place
+module _ (w : ℕ) (ms part old : List ℕ) where
+  unfoldable pub newSum : ℕ → ℕ
+  newSum i = (getD old i 0 + wholeSum w ms (drop i part)) % 2 ^ 64
+
+  pub sum-added : (i : ℕ) {v here t : ℕ} → v ≡ (here + t) % 2 ^ 64 → here ≡ getD old i 0 → t ≡ wholeSum w ms (drop i part) % 2 ^ 64 → v ≡ newSum i
   unfolding newSum
-  word-raised n new few eight wrote = (
+  sum-added i e here more =
+      e ∙ ap₂ (λ (x y : ℕ). (x + y) % 2 ^ 64) here more ∙ add-mod-mod (getD old i 0) (wholeSum w ms (drop i part)) (2 ^ 64)
+
+  pub written-raised : (n : ℕ) (new : List ℕ) → n ≤ 8 → length old ≡ 8 → new ≡ written newSum n old → Raised w n ms part old new
+  unfolding newSum
+  written-raised n new few eight wrote = (
     written-long newSum old new n (omega arith) wrote ∙ eight,
-    λ i lt.
-        ap (λ (l : List ℕ). getD l i 0 % 2 ^ 64) wrote
-        ∙ ap (λ (x : ℕ). x % 2 ^ 64) (table-at newSum n i (drop n old) lt)
-        ∙ mod-mod _ (2 ^ 64)
-        ∙ mod-add-mod (getD old i 0 + m * getD part i 0) (2 ^ 64) (m * getD part (i + 1) 0 / 2 ^ w)
-        ∙ ap (λ (x : ℕ). x % 2 ^ 64)
-        (add-assoc (getD old i 0) (m * getD part i 0) (m * getD part (i + 1) 0 / 2 ^ w) ∙ ap (λ (x : ℕ). getD old i 0 + x) (word-sum w m part i)),
+    λ i lt. ap (λ (l : List ℕ). getD l i 0) wrote ∙ table-at newSum n i (drop n old) lt,
     λ i le. ap (λ (l : List ℕ). getD l i 0) wrote ∙ written-beyond newSum n i old le,
   )
 
 module _ (w n : ℕ) where
-  -- no message
-  pub raised-none : (ks row : List ℕ) → length row ≡ 8 → Raised w n [] ks row row
+  -- no message, from zero on
+  raised-none : (ks : List ℕ) → n ≤ 8 → Raised w n [] ks (replicate 8 0) (replicate 8 0)
   unfolding wholeSum
-  raised-none ks row eight = (eight, λ i lt. ap (λ (x : ℕ). x % 2 ^ 64) (sym (add-zero (getD row i 0))), λ i le. refl)
+  raised-none ks few =
+      (length-replicate {A = ℕ} 8 0, λ i lt. rw (getD-replicate {A = ℕ} 8 i 0 0 (omega arith)) refl, λ i le. refl)
 
   -- a message in two parts: the second goes on where the first left the key
   pub raised-append : (a b ks rest old mid new : List ℕ) → rest ≡ drop (length a) ks
@@ -65,27 +85,19 @@ module _ (w n : ℕ) where
         let part : drop i rest ≡ drop (length a) (drop i ks) = ap (drop i) e ∙ drop-swap i (length a) ks in
         second .1 i lt
         ∙ ap (λ (l : List ℕ). (getD mid i 0 + wholeSum w b l) % 2 ^ 64) part
-        ∙ sym (mod-add-mod (getD mid i 0) (2 ^ 64) y)
         ∙ ap (λ (z : ℕ). (z + y) % 2 ^ 64) (first .1 i lt)
         ∙ mod-add-mod (getD old i 0 + x) (2 ^ 64) y
         ∙ ap (λ (z : ℕ). z % 2 ^ 64) (add-assoc (getD old i 0) x y ∙ ap (λ (z : ℕ). getD old i 0 + z) (sym (sum-append w a b (drop i ks)))),
     λ i le. second .2 i le ∙ first .2 i le,
   )
 
-  -- the word at j
-  pub raised-word : (j m : ℕ) (ms ks rest old mid new : List ℕ) → j < length ms → m ≡ getD ms j 0 → rest ≡ drop j ks
-      → Raised w n (take j ms) ks old mid
-      → Raised w n (m ∷ []) rest mid new
-      → Raised w n (take (j + 1) ms) ks old new
-  raised-word j m ms ks rest old mid new lt word lent first second =
-      let long : length (take j ms) ≡ j = length-take-le j ms (omega arith) in
-      let more : take (j + 1) ms ≡ take j ms ++ (m ∷ []) =
-      ap (λ (k : ℕ). take k ms) (add-one j) ∙ take-suc ms j 0 lt ∙ ap (λ (x : ℕ). take j ms ++ (x ∷ [])) (sym word) in
-      rw more (raised-append (take j ms) (m ∷ []) ks rest old mid new (lent ∙ ap (λ (k : ℕ). drop k ks) (sym long)) first second)
-
   -- rows peer by peer
-  pub all-none : (size : ℕ) (ks : List ℕ) (old : List (List ℕ)) (p : ℕ) → Sixteen old → p ≤ 16 → AllRaised w n p size [] ks old old
-  all-none size ks old p s few = (s .0, λ q lt. raised-none (drop (q * size) ks) (getD old q []) (s .1 q (omega arith)), λ q le. refl)
+  pub all-none : (size : ℕ) (ks : List ℕ) (p : ℕ) → n ≤ 8 → p ≤ 16 → AllRaised w n p size [] ks zeros zeros
+  all-none size ks p few peers = (
+    length-replicate {A = List ℕ} 16 (replicate 8 0),
+    λ q lt. rw (getD-replicate {A = List ℕ} 16 q (replicate 8 0) [] (omega arith)) (raised-none (drop (q * size) ks) few),
+    λ q le. refl,
+  )
 
   module _ (size : ℕ) (ms ks : List ℕ) (old : List (List ℕ)) where
     pub none-raised : length old ≡ 16 → AllRaised w n 0 size ms ks old old

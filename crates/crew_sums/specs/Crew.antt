@@ -12,7 +12,7 @@ use Rattle.sums.specs.Sums.{summable}
 abbrev pub Raised : ℕ → ℕ → List ℕ → List ℕ → List ℕ → List ℕ → Type 0
 Raised w n ms ks old new =
     (length new ≡ 8)
-    × ((i : ℕ) → i < n → getD new i 0 % 2 ^ 64 ≡ (getD old i 0 + wholeSum w ms (drop i ks)) % 2 ^ 64)
+    × ((i : ℕ) → i < n → getD new i 0 ≡ (getD old i 0 + wholeSum w ms (drop i ks)) % 2 ^ 64)
     × ((i : ℕ) → n ≤ i → getD new i 0 ≡ getD old i 0)
 
 -- sixteen rows, of which the first p are so, each under the keys from its own on; a key has size words. The others are as they were

@@ -1,16 +1,17 @@
 -- `crew_sums::add_word` meets its contract: after i sums the row is written up to i.
-use mathlib.Core.Path.{_≡_, ap₂, _∙_}
-use Prim.Native.Nat.{ℕ, _+_, _-_, _/_, _%_, _^_, _≤_}
+use mathlib.Core.Path.{_≡_}
+use mathlib.Core.List.{[], _∷_}
+use Prim.Native.Nat.{_-_, _≤_}
 use native.Mathlib.Omega.{arith}
 use Rattle.rows.specs.Written.{written}
 use Rattle.rows.proofs.Written.{written-none, written-step, written-here}
-use Rattle.crew_sums.proofs.Rise.{newSum, word-raised}
+use Rattle.crew_sums.proofs.Rise.{newSum, one-adds, sum-added, written-raised}
 use borrow.Author.Needs.{needs}
 use Rattle.crew_sums.proofs.add_word.Statement.{statement}
 use Rattle.crew_sums.proofs.add_word.Tie as tie
 
 abbrev Inv-loop : tie.InvT-loop
-Inv-loop w n sums₀ m part i₀ sums i = (i ≤ n) × (sums ≡ written (newSum w m part sums₀) i sums₀)
+Inv-loop w n sums₀ m part i₀ sums i = (i ≤ n) × (sums ≡ written (newSum w (m ∷ []) part sums₀) i sums₀)
 
 abbrev μ-loop : tie.MeasureT-loop
 μ-loop w n sums₀ m part i₀ sums i = n - i
@@ -24,35 +25,26 @@ mul-wrapping-add-u64 c = search needs
 element-copy-out-wrapping-add-u64 : tie.Need-element-copy-out-wrapping-add-u64 Inv-loop μ-loop
 element-copy-out-wrapping-add-u64 c = search needs
 
-mul-product : tie.Need-mul-product Inv-loop μ-loop
-mul-product c = search needs
+mul-word-adds : tie.Need-mul-word-adds Inv-loop μ-loop
+mul-word-adds c = search needs
 
-shared-slice-read-product : tie.Need-shared-slice-read-product Inv-loop μ-loop
-shared-slice-read-product c = search needs
+shared-slice-read-word-adds : tie.Need-shared-slice-read-word-adds Inv-loop μ-loop
+shared-slice-read-word-adds c = search needs
 
-product-requires : tie.Need-product-requires Inv-loop μ-loop
-product-requires c κs = search needs
+add-word-adds : tie.Need-add-word-adds Inv-loop μ-loop
+add-word-adds c = search needs
+
+mul-word-adds-2 : tie.Need-mul-word-adds-2 Inv-loop μ-loop
+mul-word-adds-2 c = search needs
+
+shared-slice-read-word-adds-2 : tie.Need-shared-slice-read-word-adds-2 Inv-loop μ-loop
+shared-slice-read-word-adds-2 c = search needs
+
+word-adds-requires : tie.Need-word-adds-requires Inv-loop μ-loop
+word-adds-requires c κs = search needs
 
 wrapping-add-u64-requires : tie.Need-wrapping-add-u64-requires Inv-loop μ-loop
 wrapping-add-u64-requires c κs = search needs
-
-add-product : tie.Need-add-product Inv-loop μ-loop
-add-product c = search needs
-
-mul-product-2 : tie.Need-mul-product-2 Inv-loop μ-loop
-mul-product-2 c = search needs
-
-shared-slice-read-product-2 : tie.Need-shared-slice-read-product-2 Inv-loop μ-loop
-shared-slice-read-product-2 c = search needs
-
-product-requires-2 : tie.Need-product-requires-2 Inv-loop μ-loop
-product-requires-2 c κs = search needs
-
-shr-wrapping-add-u64 : tie.Need-shr-wrapping-add-u64 Inv-loop μ-loop
-shr-wrapping-add-u64 c = search needs
-
-wrapping-add-u64-requires-2 : tie.Need-wrapping-add-u64-requires-2 Inv-loop μ-loop
-wrapping-add-u64-requires-2 c κs = search needs
 
 mul-sums : tie.Need-mul-sums Inv-loop μ-loop
 mul-sums c = search needs
@@ -67,16 +59,15 @@ loop-less : tie.Need-loop-less Inv-loop μ-loop
 loop-less c = search needs
 
 loop-again : tie.Need-loop-again Inv-loop μ-loop
-unfolding newSum
 loop-again c =
-    let l = c .before .before .before .before .before .before .before .before .loop in
-    let s = c .before .before .before .before .before .before .before .before .before .before in
+    let l = c .before .before .before .before .before .before .loop in
+    let s = c .before .before .before .before .before .before .before .before in
     let a = s .args in
+    let part = a .part .now in
+    let word = a .m ∷ [] in
+    let f = newSum (a .w) word part (a .sums .now) in
     let eight = s .pre .0 in
-    let first = c .before .before .before in
-    let f = newSum (a .w) (a .m) (a .part .now) (a .sums .now) in
-    let low = first .wrapping-add-u64 .ensures ∙ ap₂ (λ (x y : ℕ). (x + y) % 2 ^ 64) (written-here f (a .sums .now) (l .sums) (l .i) (l .inv .1)) (first .before .product .ensures) in
-    let sum = c .wrapping-add-u642 .ensures ∙ ap₂ (λ (x y : ℕ). (x + y / 2 ^ a .w) % 2 ^ 64) low (c .before .product2 .ensures) in
+    let sum = sum-added (a .w) word part (a .sums .now) (l .i) (c .wrapping-add-u64 .ensures) (written-here f (a .sums .now) (l .sums) (l .i) (l .inv .1)) (one-adds (a .w) (a .m) part (l .i) (c .before .word-adds .ensures)) in
     (omega arith, written-step f (a .sums .now) (l .sums) (l .i) _ (omega arith) sum (l .inv .1))
 
 returns : tie.Need-returns Inv-loop μ-loop
@@ -85,7 +76,7 @@ returns c =
     let s = c .before .before .before in
     let a = s .args in
     let all : l .i ≡ a .n = omega arith in
-    word-raised (a .w) (a .m) (a .part .now) (a .sums .now) (a .n) (l .sums) (omega arith) (s .pre .0) (rw (← all) (l .inv .1))
+    written-raised (a .w) (a .m ∷ []) (a .part .now) (a .sums .now) (a .n) (l .sums) (omega arith) (s .pre .0) (rw (← all) (l .inv .1))
 
 pub add-word-spec : {M : Type 1} → statement M
 add-word-spec =
@@ -96,16 +87,13 @@ add-word-spec =
     loop-holds
     mul-wrapping-add-u64
     element-copy-out-wrapping-add-u64
-    mul-product
-    shared-slice-read-product
-    product-requires
+    mul-word-adds
+    shared-slice-read-word-adds
+    add-word-adds
+    mul-word-adds-2
+    shared-slice-read-word-adds-2
+    word-adds-requires
     wrapping-add-u64-requires
-    add-product
-    mul-product-2
-    shared-slice-read-product-2
-    product-requires-2
-    shr-wrapping-add-u64
-    wrapping-add-u64-requires-2
     mul-sums
     element-write-sums
     add-i

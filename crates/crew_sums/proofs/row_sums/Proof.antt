@@ -5,21 +5,18 @@ use mathlib.Core.List.{[], _∷_}
 use Prim.Native.Nat.{ℕ, _+_, _-_}
 use native.Mathlib.Omega.{arith}
 use borrow.Author.Tests.{not-true, not-false}
-use lib.ListN.{length, getD, take, drop, length-drop, getD-replicate}
+use lib.ListN.{length, getD, take, drop, length-drop}
 use lib.Seq.{take-all, length-take-le}
 use Rattle.rows.proofs.Parts.{part-to-end}
 use Rattle.answers.proofs.Judged.{peers-passed}
 use Rattle.walk.specs.Walk.{paired}
-use Rattle.crew_sums.specs.Crew.{Sixteen, Ready, crewSummable, zeros}
+use Rattle.crew_sums.specs.Crew.{Ready, crewSummable, zeros}
 use Rattle.crew_sums.proofs.Rise.{all-append}
-use Rattle.crew_sums.proofs.Groups.{still-sixteen}
+use Rattle.crew_sums.proofs.Pairs.{zeros-sixteen, still-sixteen}
 use Rattle.crew_sums.proofs.Suffices.{too-few-or-many, not-summable, crew-can, crew-ready, with-last, last-tested}
 use borrow.Author.Needs.{needs}
 use Rattle.crew_sums.proofs.row_sums.Statement.{statement}
 use Rattle.crew_sums.proofs.row_sums.Tie as tie
-
-zeros-sixteen : Sixteen zeros
-zeros-sixteen = (refl, λ q lt. ap length (getD-replicate 16 q _ [] lt))
 
 can : (c : tie.Else2) → crewSummable (c .before .before .before .before .before .before .args .w) (c .before .before .before .before .before .before .args .n) (c .before .before .before .before .before .before .args .p) (length (c .before .before .before .before .before .before .args .message .now)) (length (c .before .before .before .before .before .before .args .keys .now)) ≡ true
 can c = crew-can _ _ _ _ _ (sym (c .before .before .before .bad-peers .ensures) ∙ c .before .before .if1 .left) (sym (c .before .can-sum .ensures) ∙ not-false _ (c .if2 .left))
@@ -52,8 +49,8 @@ add-size c = search needs
 mul-done : tie.Need-mul-done
 mul-done c = search needs
 
-add-groups-requires : tie.Need-add-groups-requires
-add-groups-requires c κs = (zeros-sixteen, here (c .before))
+add-words-requires : tie.Need-add-words-requires
+add-words-requires c κs = (refl, here (c .before))
 
 returns-3 : tie.Need-returns-3
 returns-3 c =
@@ -61,7 +58,7 @@ returns-3 c =
     let s = here (summed .before .before) in
     let ms = c .before .before .before .before .before .before .before .before .before .args .message .now in
     let all : take (paired ms) ms ≡ ms = take-all (paired ms) ms (omega arith) in
-    (λ e. (rw all at (summed .add-groups .ensures .0), rw all at (summed .add-groups .ensures .1)), λ e. absurd (true≢false (sym (can (summed .before .before)) ∙ e)))
+    (λ e. (rw all at (summed .add-words .ensures .0), rw all at (summed .add-words .ensures .1)), λ e. absurd (true≢false (sym (can (summed .before .before)) ∙ e)))
 
 mul-last : tie.Need-mul-last
 mul-last c = search needs
@@ -88,7 +85,7 @@ add-last-requires c κs =
     let a = c .before .before .before .before .before .before .before .before .before .before .before .before .args in
     let done = paired (a .message .now) in
     let ks = a .keys .now in (
-      still-sixteen (a .w) (a .n) (a .p) (length (a .message .now) + a .n) (take done (a .message .now)) ks zeros (summed .add-groups .last .1 .1 .1 .1 .1 .1 .0) zeros-sixteen (summed .add-groups .ensures .0),
+      still-sixteen (a .w) (a .n) (a .p) (length (a .message .now) + a .n) (take done (a .message .now)) ks zeros (summed .add-words .last .1 .1 .1 .1 .1 .1 .0) zeros-sixteen (summed .add-words .ensures .0),
       (s .0, s .1, s .2, s .3, s .4, λ q lt. rw (part-to-end _ done ks refl, length-drop done ks) (omega (arith, s .5 q lt))),
     )
 
@@ -108,8 +105,8 @@ returns-4 c =
     let done = paired ms in
     let odd : length ms ≡ done + 1 = omega arith in
     let taken : length (take done ms) ≡ done = length-take-le done ms (omega arith) in
-    let both = all-append (a .w) (a .n) (length (a .message .now) + a .n) (take done ms) ks zeros (a .p) (getD ms done 0 ∷ []) (take (length ks - done) (drop done ks)) (summed .add-groups .last .1 .1 .1 .1 .1 .1 .0) (last .add-last .last .1 .1 .1 .1 .1 .1 .0) (part-to-end _ done ks refl ∙ ap (λ (k : ℕ). drop k ks) (sym taken)) (summed .add-groups .ensures .0) (last .add-last .ensures) in (
-      λ e. (rw (with-last ms done odd) at both, last-tested ms done odd (a .w) (summed .add-groups .ensures .1) (c .before .below .ensures) (c .both .ensures)),
+    let both = all-append (a .w) (a .n) (length (a .message .now) + a .n) (take done ms) ks zeros (a .p) (getD ms done 0 ∷ []) (take (length ks - done) (drop done ks)) (summed .add-words .last .1 .1 .1 .1 .1 .1 .0) (last .add-last .last .1 .1 .1 .1 .1 .1 .0) (part-to-end _ done ks refl ∙ ap (λ (k : ℕ). drop k ks) (sym taken)) (summed .add-words .ensures .0) (last .add-last .ensures) in (
+      λ e. (rw (with-last ms done odd) at both, last-tested ms done odd (a .w) (summed .add-words .ensures .1) (c .before .below .ensures) (c .both .ensures)),
       λ e. absurd (true≢false (sym (can (summed .before .before)) ∙ e)),
     )
 
@@ -124,7 +121,7 @@ row-sums-spec =
     returns-2
     add-size
     mul-done
-    add-groups-requires
+    add-words-requires
     returns-3
     mul-last
     shared-slice-read-last
