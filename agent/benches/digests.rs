@@ -65,9 +65,14 @@ fn main() {
     for (words, w, n) in [
         (WORDS, 32, 1),
         (WORDS, 32, 2),
+        (WORDS, 32, 3),
+        (WORDS, 32, 4),
         (WORDS, 32, 8),
         (WORDS, 16, 1),
         (WORDS, 16, 8),
+        (FEWER, 32, 1),
+        (FEWER, 32, 2),
+        (FEWER, 32, 8),
         (16, 32, 1),
         (16, 32, 8),
     ] {
@@ -492,6 +497,10 @@ impl CodeRow {
         println!("      {fastest:.2} ({median:.2})");
     }
 }
+
+/// Message words of a crew whose keys lie farther from a whole number of pages apart than at
+/// `WORDS`: there, the places that a turn reads in all keys meet in a few sets of the cache.
+const FEWER: usize = 65_000;
 
 /// The largest crew.
 const PEERS: usize = pairing_agent::MOST_PEERS;

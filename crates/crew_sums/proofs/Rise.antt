@@ -1,8 +1,8 @@
--- Rows of sums: one word more, a message in two parts, and rows peer by peer.
+-- Rows of sums: one word or two more, a message in two parts, and rows peer by peer.
 -- Assumes nothing.
 use mathlib.Core.Path.{_≡_, refl, sym, ap, ap₂, subst, _∙_}
 use mathlib.Core.List.{List, [], _∷_, _++_}
-use Prim.Native.Nat.{ℕ, _+_, _-_, _*_, _/_, _%_, _^_, _≤_, _<_}
+use Prim.Native.Nat.{ℕ, _+_, _-_, _*_, _%_, _^_, _≤_, _<_}
 use native.Mathlib.Nat.{le-refl, add-assoc, add-mod, add-mod-mod, mod-add-mod}
 use native.Mathlib.Decide.{ℕ-discrete}
 use native.Mathlib.Omega.{arith}
@@ -18,7 +18,7 @@ use Rattle.walk.proofs.Left.{word-sum}
 use Rattle.crew_sums.specs.Crew.{Raised, AllRaised, zeros}
 
 -- what a row that is written up to n holds beyond
-pub written-beyond : (f : ℕ → ℕ) (n i : ℕ) (old : List ℕ) → n ≤ i → getD (written f n old) i 0 ≡ getD old i 0
+written-beyond : (f : ℕ → ℕ) (n i : ℕ) (old : List ℕ) → n ≤ i → getD (written f n old) i 0 ≡ getD old i 0
 written-beyond f n i old le =
     let place : length (table f n) + (i - n) ≡ i = ap (λ (k : ℕ). k + (i - n)) (length-table f n) ∙ omega arith in
     let place′ : n + (i - n) ≡ i = omega arith in
@@ -33,7 +33,7 @@ two-sum w first second ks i =
     ap₂ (λ (x y : ℕ). x + y) (word-sum w first ks i) (word-sum w second ks (i + 1) ∙ ap (wholeSum w (second ∷ [])) (sym (drop-drop 1 i ks)))
     ∙ sym (sum-append w (first ∷ []) (second ∷ []) (drop i ks))
 
--- that number as the code makes it, modulo 2^64 at each step
+-- what one word adds, and what two add, as the code makes it: modulo 2^64 at each step
 pub one-adds : (w m : ℕ) (ks : List ℕ) (i : ℕ) {t : ℕ} → t ≡ added w ks i m % 2 ^ 64 → t ≡ wholeSum w (m ∷ []) (drop i ks) % 2 ^ 64
 one-adds w m ks i e = e ∙ ap (λ (x : ℕ). x % 2 ^ 64) (word-sum w m ks i)
 
