@@ -11,7 +11,7 @@ use common::faults::Faults;
 use common::random::Random;
 use pairing_agent::{digest_crew, ffi, Refusal, Settings};
 
-/// Message lengths on either side of the groups of 32 words that the library takes at a time.
+/// Message lengths, odd and even: the library takes the words in pairs, and an odd last one alone.
 const LENGTHS: [usize; 14] = [0, 1, 2, 3, 5, 30, 31, 32, 33, 34, 63, 64, 65, 129];
 
 fn answer(call: &Crew) -> u32 {
