@@ -52,6 +52,10 @@ fn a_file_is_named_after_a_sign() {
             );
         }
     }
+    // That comes before a missing option.
+    let args = ["match", "sent.digest", "sent.digest"];
+    bad_usage("; for a file write @sent.digest", &args, b"");
+    bad_usage("--words", &["match", "0xac", "0xac"], b"");
     let args = ["match", "--words=1", &file.at(), "0xac"];
     assert_eq!(accepted(&args, b""), "match\n");
     // What can only be a number is not taken for a file.

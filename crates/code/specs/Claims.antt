@@ -11,7 +11,7 @@ use Rattle.counts.specs.Claims.{Row}
 use Rattle.code.specs.Code.{code}
 use Rattle.code.specs.Calls.{codeAnswer, codeRow}
 
--- how many keys of t + 1 words give both messages one code, byte for byte
+-- 02, "Two", with 01's "A count of keys": how many keys of t + 1 words give both messages one code, byte for byte
 unfoldable pub keysThatAgree : ℕ → ℕ → ℕ → List ℕ → List ℕ → ℕ
 keysThatAgree w d t first second = count w (t + 1) (λ ks. sameRow (code w d first ks) (code w d second ks))
 
@@ -19,11 +19,11 @@ keysThatAgree w d t first second = count w (t + 1) (λ ks. sameRow (code w d fir
 unfoldable pub largestQuotient : ℕ → ℕ → ℕ
 largestQuotient w d = (2 ^ w - 1) / 10 ^ d
 
--- how many keys the document allows
+-- 02, "Two": how many keys the document allows
 unfoldable pub bound : ℕ → ℕ → ℕ → ℕ
 bound w d t = (2 * largestQuotient w d + 1) * 2 ^ (w * t + 1)
 
--- two different messages of t words: their codes agree under no more keys than the bound. It asks nothing of w, d and t
+-- 02, "Two", for two different messages of t words: their codes agree under no more keys than the bound. It asks nothing of w, d and t
 unfoldable pub CodeBound : Type 0
 CodeBound =
     (w d t : ℕ) (first second : List ℕ) → Row w t first → Row w t second → first ≢ second → keysThatAgree w d t first second ≤ bound w d t
@@ -35,15 +35,15 @@ pub record InRange (w d : ℕ) : Type 0 where
   pub some-digits : 1 ≤ d
   pub digits : 10 ^ d ≤ 2 ^ w
 
--- two rows agree in the bytes of a code, compared byte by byte
+-- 02, "Two", two digits a byte: two rows agree in the bytes of a code, compared byte by byte
 unfoldable pub bytesAgree : ℕ → List ℕ → List ℕ → Bool
 bytesAgree d first second = every ((d + 1) / 2) (λ i. eqb (getD first i 0) (getD second i 0))
 
--- how many keys of t + 1 words make two calls write the same bytes, each into an output of its own
+-- 01's "A count of keys": how many keys of t + 1 words make two calls write the same bytes, each into an output of its own
 unfoldable pub keysThatMatch : ℕ → ℕ → ℕ → List ℕ → List ℕ → List ℕ → List ℕ → ℕ
 keysThatMatch w d t first second out out′ = count w (t + 1) (λ ks. bytesAgree d (codeRow w d first ks out) (codeRow w d second ks out′))
 
--- a false match, counted as the agent makes it: two different messages of t words, outputs that have room
+-- 02, "Two", a false match counted as the agent makes it: two different messages of t words, outputs that have room
 unfoldable pub FalseCodes : Type 0
 FalseCodes =
     (w d t : ℕ) (first second out out′ : List ℕ)

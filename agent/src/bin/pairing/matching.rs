@@ -25,12 +25,14 @@ Prints 'match' with exit status 0, or 'no match' with exit status 1.
 ";
 
 pub fn run(args: Args) -> Result<Answer, Failure> {
-    let words = args.needed_number("--words")?;
     let [first, second] = args.operands(["FIRST", "SECOND"])?;
     if first == "@-" && second == "@-" {
         return Err(usage("only one digest can be standard input"));
     }
-    let (first, second) = (digest(first)?, digest(second)?);
+    // Who forgets the @ may well have forgotten --words, and is told of the @ first.
+    let (first, second) = (Given::of(first)?, Given::of(second)?);
+    let words = args.needed_number("--words")?;
+    let (first, second) = (first.read()?, second.read()?);
     let agree = pairing_agent::digests_match(words, &first, &second)
         .map_err(|refusal| refused::digests_match(refusal, words, &first, &second))?;
     Ok(if agree {
@@ -40,13 +42,28 @@ pub fn run(args: Args) -> Result<Answer, Failure> {
     })
 }
 
-/// The digest that an operand gives.
-fn digest(operand: &OsStr) -> Result<Vec<u32>, Failure> {
-    match input::at_file(operand) {
-        Some(file) => input::row(file, apart, digest_word),
-        None => input::words(&operand.to_string_lossy(), apart)
-            .map(|word| digest_word(word).map_err(|why| usage(why + &or_a_file(operand))))
-            .collect(),
+/// The digest that an operand gives: its words, or a file of them.
+enum Given<'a> {
+    Words(Vec<u32>),
+    File(&'a OsStr),
+}
+
+impl<'a> Given<'a> {
+    fn of(operand: &'a OsStr) -> Result<Given<'a>, Failure> {
+        match input::at_file(operand) {
+            Some(file) => Ok(Given::File(file)),
+            None => input::words(&operand.to_string_lossy(), apart)
+                .map(|word| digest_word(word).map_err(|why| usage(why + &or_a_file(operand))))
+                .collect::<Result<_, _>>()
+                .map(Given::Words),
+        }
+    }
+
+    fn read(self) -> Result<Vec<u32>, Failure> {
+        match self {
+            Given::Words(words) => Ok(words),
+            Given::File(file) => input::row(file, apart, digest_word),
+        }
     }
 }
 
