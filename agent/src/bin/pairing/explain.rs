@@ -67,7 +67,7 @@ fn all() -> impl Iterator<Item = Explained> {
             101,
             "No match",
             "Two digests of the right size differ somewhere.",
-            "issue no network key; compare the labels and pair again with a fresh seed",
+            "issue no network key; compare the labels and pair again with a fresh key",
         ),
     ];
     let others = others.map(|(number, word, given, advice)| Explained {
