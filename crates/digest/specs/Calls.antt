@@ -17,7 +17,7 @@ unfoldable pub callsThatMatch : ℕ → ℕ → ℕ → ℕ → List ℕ → Lis
 callsThatMatch w b n t first second out out′ =
     count w (t + n) (λ ks. eqb (matchAnswer n (take n (digestRow w b n first ks out)) (take n (digestRow w b n second ks out′))) 100)
 
--- a false match, counted as the agent makes it: two different messages of t words, outputs that have room
+-- demand 3 of the match, a false match counted as the agent makes it: two different messages of t words, outputs that have room
 unfoldable pub FalseCalls : Type 0
 FalseCalls =
     (w b n t : ℕ) (first second out out′ : List ℕ)
