@@ -1,4 +1,4 @@
-.PHONY: help test demo prove lib pairing bench soak test-memory figures
+.PHONY: help test changed demo prove lib pairing bench soak test-memory figures
 
 # Cargo on the agent's package; what it builds goes below target/.
 CARGO = CARGO_TARGET_DIR=target/agent cargo
@@ -13,6 +13,10 @@ help:
 # every proof, must-fail edit, program, Rust test and C test; the last line is 'N passed, 0 failed'
 test:
 	@tools/test.sh
+
+# proofs, must-fail edits and programs of the crates that differ from origin/main, or of CRATES="a b", and of those above them
+changed:
+	@tools/changed.sh $(CRATES)
 
 # a scanner and a depot pair, from the Rust agent
 demo: lib

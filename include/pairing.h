@@ -41,9 +41,9 @@
 
 /* The version of this header and of the library that goes with it. */
 #define PAIRING_VERSION_MAJOR 0
-#define PAIRING_VERSION_MINOR 7
+#define PAIRING_VERSION_MINOR 8
 #define PAIRING_VERSION_PATCH 0
-#define PAIRING_VERSION "0.7.0"
+#define PAIRING_VERSION "0.8.0"
 
 /* The same as a number. Where pairing_version() answers another, the library that is
  * linked is not this header's. */
@@ -68,42 +68,49 @@ extern "C" {
 #endif
 
 /* The answers. */
+/* begin: made by tools/answers.py from answers.toml */
 enum {
-    /* Accepted: the output is written. */
+    /* Accepted: The call is fit, and its output is written. */
     PAIRING_ACCEPTED = 0,
-    /* State: a stream or generator that is not fit. No entry here takes one, so none
-     * answers this. */
+    /* State: The state of a stream or generator holds a number outside its range, or
+     * something in a place not in use. Only calls from Rattle take a state: no C entry,
+     * Rust function or command answers this. */
     PAIRING_STATE = 8,
-    /* Width: w is not 1 to 32; in the byte digest, not 8, 16 or 32. */
+    /* Width: The width w is not 1 to 32; for bytes, not 8, 16 or 32. */
     PAIRING_WIDTH = 1,
-    /* Digits: a code of no digits, or of so many that 10^d is more than 2^w. */
+    /* Digits: The code's digits d are 0, or 10^d is more than 2^w: widths 30 to 32 take
+     * up to 9 digits, widths 1 to 3 none. */
     PAIRING_DIGITS = 9,
-    /* Seed: a seed array of no words, or of more than PAIRING_MOST_SEED_WORDS. */
+    /* Seed: The seed array has no words, or more than 8. */
     PAIRING_SEED = 11,
-    /* Kept: b is 0 or more than w. */
+    /* Kept: The kept bits b are 0, or more than the width w. */
     PAIRING_KEPT = 2,
-    /* Count: n is not 1 to 8. */
+    /* Count: The digest words n are not 1 to 8. */
     PAIRING_COUNT = 3,
-    /* Peers: p is not 1 to 16. */
+    /* Peers: The peers p are not 1 to 16. */
     PAIRING_PEERS = 10,
-    /* Long: the message, a load's too, has more than PAIRING_MOST_WORDS words, for bytes
-     * counted with the closing byte; a stretch or the key of a load, more than
-     * PAIRING_MOST_KEY_WORDS. */
+    /* Long: The message, or the message row of a load, has more than 65,536 words, for
+     * bytes counted with the closing byte 0x80, in a stream with the words taken before;
+     * or a stretch, or the key row of a load, has more than 65,544. */
     PAIRING_LONG = 4,
-    /* Key: the key does not have n words more than the message, for bytes counted with
-     * the closing byte; for a code, one word more; the keys of a crew do not have p times
-     * as many words. */
+    /* Key: The key does not have exactly n words more than the message, for bytes
+     * counted with the closing byte 0x80; for a code, not one word more; for p peers,
+     * the keys do not have p times as many words together. In a stream: the opening key
+     * does not have n words, or a push has more words of one kind than of the other. */
     PAIRING_KEY = 5,
-    /* Tray: the output has fewer than n places, for a code fewer than (d + 1) / 2, for a
-     * crew fewer than p * n; in a match, a row is not n words. */
+    /* Tray: The output has fewer places than the call writes: n, for a code (d+1)/2
+     * bytes rounded down, for p peers p times n. In a match: a row does not have exactly
+     * n words. */
     PAIRING_TRAY = 6,
-    /* Word: a message or key word is 2^w or more; of a crew, a word of any key. */
+    /* Word: A word of the message, or of any key, has more than w bits: it is 2^w or
+     * more. */
     PAIRING_WORD = 7,
-    /* Match: the two rows agree at every place. */
+    /* Match: The two digests agree at every place. */
     PAIRING_MATCH = 100,
-    /* No match: the two rows differ at some place. */
+    /* No match: The two digests, of n words each, differ at some place. */
     PAIRING_NO_MATCH = 101
 };
+/* end: made by tools/answers.py from answers.toml */
 
 /* The most message words of one digest or load. One byte closes a message of bytes,
  * so at width w it has at most w / 8 * PAIRING_MOST_WORDS - 1. */
@@ -118,7 +125,7 @@ enum {
 /* The most words that a digest has, and so the largest n. */
 #define PAIRING_MOST_DIGEST_WORDS 8
 
-/* The most peers of a crew, and so the largest p. */
+/* The most peers of one call, and so the largest p. */
 #define PAIRING_MOST_PEERS 16
 
 /* The most digits that a code has, at widths 30 to 32, and the most bytes. */
@@ -196,10 +203,10 @@ uint32_t pairing_digest_code(uint32_t w, uint32_t d,
  * keys are not seen here, so hand on only keys that have been measured.
  */
 PAIRING_USE_ANSWER
-uint32_t pairing_digest_crew(uint32_t w, uint32_t b, uint32_t n, uint32_t p,
-                             const uint32_t *message, size_t message_words,
-                             const uint32_t *keys, size_t keys_words,
-                             uint32_t *out, size_t out_words);
+uint32_t pairing_digest_peers(uint32_t w, uint32_t b, uint32_t n, uint32_t p,
+                              const uint32_t *message, size_t message_words,
+                              const uint32_t *keys, size_t keys_words,
+                              uint32_t *out, size_t out_words);
 
 /*
  * Fills the whole of out with key words, each the upper w bits of the next output of

@@ -294,17 +294,17 @@ static int code_refused(void)
 }
 
 /* The key's first three words, and its last three: the two digest words of the key as a whole. */
-static int crew_accepted(void)
+static int peers_accepted(void)
 {
     static const uint32_t keys[] = {10, 20, 100, 20, 100, 250};
     uint32_t out[] = {1, 2, 3, 4};
     const uint32_t due[] = {0xac, 0xff, 3, 4};
-    uint32_t answer = pairing_digest_crew(8, 8, 1, 2, message, WORDS(message), keys, WORDS(keys), out, WORDS(out));
+    uint32_t answer = pairing_digest_peers(8, 8, 1, 2, message, WORDS(message), keys, WORDS(keys), out, WORDS(out));
     return answer == PAIRING_ACCEPTED && memcmp(out, due, sizeof due) == 0;
 }
 
-/* Each row is the word digest under the peer's key, for every size of crew and digest. */
-static int crew_of_every_size(void)
+/* Each row is the word digest under the peer's key, for every number of peers and digest words. */
+static int peers_of_every_number(void)
 {
     enum { MOST = PAIRING_MOST_PEERS, WIDE = PAIRING_MOST_DIGEST_WORDS, LONG = 67 };
     static uint32_t words[LONG], keys[MOST * (LONG + WIDE)];
@@ -319,7 +319,7 @@ static int crew_of_every_size(void)
             uint32_t out[MOST * WIDE + 1] = {0}, own[WIDE];
             size_t each = LONG + n;
             out[p * n] = 9;
-            if (pairing_digest_crew(32, 32, n, p, words, LONG, keys, p * each, out, p * n) != PAIRING_ACCEPTED ||
+            if (pairing_digest_peers(32, 32, n, p, words, LONG, keys, p * each, out, p * n) != PAIRING_ACCEPTED ||
                 out[p * n] != 9)
                 return 0;
             for (q = 0; q < p; q++)
@@ -330,19 +330,19 @@ static int crew_of_every_size(void)
     return 1;
 }
 
-static int crew_at_the_most_words(void)
+static int peers_at_the_most_words(void)
 {
     static uint32_t zeros[2 * (PAIRING_MOST_WORDS + 1)];
     uint32_t out[] = {9, 9, 9};
-    return pairing_digest_crew(32, 32, 1, 2, zeros, PAIRING_MOST_WORDS + 1, zeros, WORDS(zeros), out, 2) ==
+    return pairing_digest_peers(32, 32, 1, 2, zeros, PAIRING_MOST_WORDS + 1, zeros, WORDS(zeros), out, 2) ==
                PAIRING_LONG &&
            out[0] == 9 &&
-           pairing_digest_crew(32, 32, 1, 2, zeros, PAIRING_MOST_WORDS, zeros, WORDS(zeros), out, 2) ==
+           pairing_digest_peers(32, 32, 1, 2, zeros, PAIRING_MOST_WORDS, zeros, WORDS(zeros), out, 2) ==
                PAIRING_ACCEPTED &&
            out[0] == 0 && out[1] == 0 && out[2] == 9;
 }
 
-static int crew_refused(void)
+static int peers_refused(void)
 {
     static const uint32_t words[PAIRING_MOST_WORDS + 1] = {3, 7, 600}, keys[] = {10, 20, 100, 20, 100, 256, 1};
     static const struct {
@@ -369,9 +369,9 @@ static int crew_refused(void)
     size_t i;
     for (i = 0; i < WORDS(calls); i++) {
         uint32_t out[] = {11, 12, 13};
-        uint32_t answer = pairing_digest_crew(calls[i].w, calls[i].b, calls[i].n, calls[i].p, words,
-                                              calls[i].message_words, keys, calls[i].keys_words, out,
-                                              calls[i].out_words);
+        uint32_t answer = pairing_digest_peers(calls[i].w, calls[i].b, calls[i].n, calls[i].p, words,
+                                               calls[i].message_words, keys, calls[i].keys_words, out,
+                                               calls[i].out_words);
         if (answer != calls[i].due || out[0] != 11 || out[1] != 12 || out[2] != 13)
             return 0;
     }
@@ -630,15 +630,15 @@ static int null_code(void)
            pairing_digest_code(0, 0, NULL, 0, NULL, 0, NULL, 0) == PAIRING_WIDTH;
 }
 
-static int null_crew(void)
+static int null_peers(void)
 {
     const uint32_t sevens[] = {7, 7};
     uint32_t out[] = {9, 9, 9};
-    return pairing_digest_crew(8, 8, 1, 2, NULL, 0, sevens, 2, out, WORDS(out)) == PAIRING_ACCEPTED && out[0] == 0 &&
-           out[1] == 0 && out[2] == 9 && pairing_digest_crew(8, 8, 1, 2, NULL, 0, NULL, 0, NULL, 0) == PAIRING_KEY &&
-           pairing_digest_crew(8, 8, 1, 2, NULL, 0, sevens, 2, NULL, 0) == PAIRING_TRAY &&
-           pairing_digest_crew(8, 8, 1, 0, NULL, 0, NULL, 0, NULL, 0) == PAIRING_PEERS &&
-           pairing_digest_crew(0, 0, 0, 0, NULL, 0, NULL, 0, NULL, 0) == PAIRING_WIDTH;
+    return pairing_digest_peers(8, 8, 1, 2, NULL, 0, sevens, 2, out, WORDS(out)) == PAIRING_ACCEPTED && out[0] == 0 &&
+           out[1] == 0 && out[2] == 9 && pairing_digest_peers(8, 8, 1, 2, NULL, 0, NULL, 0, NULL, 0) == PAIRING_KEY &&
+           pairing_digest_peers(8, 8, 1, 2, NULL, 0, sevens, 2, NULL, 0) == PAIRING_TRAY &&
+           pairing_digest_peers(8, 8, 1, 0, NULL, 0, NULL, 0, NULL, 0) == PAIRING_PEERS &&
+           pairing_digest_peers(0, 0, 0, 0, NULL, 0, NULL, 0, NULL, 0) == PAIRING_WIDTH;
 }
 
 /* The seed, and each row of a load with the other row there. */
@@ -667,7 +667,7 @@ static int version(void)
     return strcmp(text, PAIRING_VERSION) == 0;
 }
 
-/* The archive is the header's: 0.7.0 is 700. */
+/* The archive is the header's: 0.8.0 is 800. */
 static int version_of_the_library(void)
 {
     char text[32];
@@ -698,10 +698,10 @@ static const struct {
     {"code_digits", code_digits},
     {"code_at_the_most_words", code_at_the_most_words},
     {"code_refused", code_refused},
-    {"crew_accepted", crew_accepted},
-    {"crew_of_every_size", crew_of_every_size},
-    {"crew_at_the_most_words", crew_at_the_most_words},
-    {"crew_refused", crew_refused},
+    {"peers_accepted", peers_accepted},
+    {"peers_of_every_number", peers_of_every_number},
+    {"peers_at_the_most_words", peers_at_the_most_words},
+    {"peers_refused", peers_refused},
     {"stretched", stretched},
     {"stretched_to_the_most_words", stretched_to_the_most_words},
     {"stretch_refused", stretch_refused},
@@ -718,7 +718,7 @@ static const struct {
     {"null_rows", null_rows},
     {"null_bytes", null_bytes},
     {"null_code", null_code},
-    {"null_crew", null_crew},
+    {"null_peers", null_peers},
     {"null_seeds", null_seeds},
     {"version", version},
     {"version_of_the_library", version_of_the_library},

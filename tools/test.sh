@@ -3,6 +3,7 @@
 set -euo pipefail
 shopt -s nullglob
 cd "$(dirname "$0")/.."
+. tools/crates.sh
 
 logs=$(mktemp -d)
 trap 'rm -rf "$logs"' EXIT
@@ -15,10 +16,11 @@ fail() {
 
 # A crate folder that crates.txt does not list would go unproved.
 check_list() {
-    local folder name
+    local folder name names
+    names=$(crate_names)
     for folder in crates/*/; do
         name=$(basename "$folder")
-        grep -q "^$name:" crates.txt || fail "crates.txt does not list crates/$name"
+        grep -qx "$name" <<<"$names" || fail "crates.txt does not list crates/$name"
     done
 }
 
@@ -44,11 +46,19 @@ same_output() {
     echo "test result: ok. 1 passed; 0 failed; 0 ignored; 0 measured; 0 filtered out"
 }
 
+# answers: every list of the answers is as answers.toml makes it. Counts as one test.
+answers() {
+    tools/answers.py --check || fail "the lists of the answers differ"
+    echo "test every list of the answers is made from answers.toml ... ok"
+    echo "test result: ok. 1 passed; 0 failed; 0 ignored; 0 measured; 0 filtered out"
+}
+
 last_line='$s/^\([0-9][0-9]*\) passed, 0 failed$/\1/p'
 results='s/^test result: ok\. \([0-9][0-9]*\) passed; 0 failed;.*/\1/p'
 
 check_list
 rt fmt --check
+run answers "$results" answers
 run rt-ci "$last_line" rt ci
 
 # Each Rust test file is a program of its own: independent implementations, compared with what the proved programs write,
@@ -62,8 +72,8 @@ done
 
 # The generator's outputs, by C++'s own generator, and those of seed arrays by CPython's.
 cxx=(c++ -std=c++17 -Wall -Wextra -Werror -O2 -Iinclude)
-"${cxx[@]}" tests/mt_outputs.cpp -o target/tests/mt_outputs
-run mt_outputs "$results" same_output mt_outputs
+"${cxx[@]}" tests/run_mt19937.cpp -o target/tests/run_mt19937
+run run_mt19937 "$results" same_output run_mt19937
 
 # unused_answer COMPILER...: the compiler takes the header, and warns where an answer is dropped. Counts as one test.
 unused_answer() {
@@ -80,20 +90,20 @@ seed_arrays() {
     python3 tests/seed_arrays.py | target/tests/seed_arrays
 }
 
-# forged: under a known key tests/forge.py finds a label with the digest of another, and under the next key they differ, by the
-# library's own digests. Counts as one test.
+# forged: under a known key tests/forge.py finds a message with the digest of another, and under the next key they differ, by
+# the library's own digests. Counts as one test.
 forged() {
-    local seed label forged after
-    printf 'depot 7, gate B, scanner 0451' >"$logs/label"
+    local seed message forged after
+    printf 'depot 7, gate B, scanner 0451' >"$logs/message"
     for seed in 0 5489 4294967294; do
-        python3 -B tests/forge.py "$seed" "$(cat "$logs/label")" 'depot 9' >"$logs/forged"
-        label=$("$pairing" digest --seed "$seed" "$logs/label")
+        python3 -B tests/forge.py "$seed" "$(cat "$logs/message")" 'depot 9' >"$logs/forged"
+        message=$("$pairing" digest --seed "$seed" "$logs/message")
         forged=$("$pairing" digest --seed "$seed" "$logs/forged")
         after=$("$pairing" digest --seed $((seed + 1)) "$logs/forged")
-        [ "$label" = "$forged" ] || fail "the forged label has another digest under the key of seed $seed"
-        [ "$after" != "$("$pairing" digest --seed $((seed + 1)) "$logs/label")" ] || fail "one digest under the key after seed $seed"
+        [ "$message" = "$forged" ] || fail "the forged message has another digest under the key of seed $seed"
+        [ "$after" != "$("$pairing" digest --seed $((seed + 1)) "$logs/message")" ] || fail "one digest under the key after seed $seed"
     done
-    echo "test forged labels have the digest that they were forged for ... ok"
+    echo "test forged messages have the digest that they were forged for ... ok"
     echo "test result: ok. 1 passed; 0 failed; 0 ignored; 0 measured; 0 filtered out"
 }
 

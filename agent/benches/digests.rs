@@ -1,5 +1,5 @@
 //! The proved word digest beside Rust loops, the proved byte digest and code beside the word digest
-//! of the same words, those of bytes with the closing one, a crew's digests beside as many word
+//! of the same words, those of bytes with the closing one, the peers' digests beside as many word
 //! digests, and what calls of short messages take, each on one input in one run.
 //!
 //! Every Rust loop walks once over the message, for all digest words, and tests its words. (a) is a
@@ -60,8 +60,8 @@ fn main() {
         row.print();
     }
 
-    println!("\nA crew of {PEERS} in one call, and {PEERS} word digests under the same keys.\n");
-    println!("  words   w  n        crew     digests    crew / digests");
+    println!("\n{PEERS} peers in one call, and {PEERS} word digests under the same keys.\n");
+    println!("  words   w  n       peers     digests   peers / digests");
     for (words, w, n) in [
         (WORDS, 32, 1),
         (WORDS, 32, 2),
@@ -76,7 +76,7 @@ fn main() {
         (16, 32, 1),
         (16, 32, 8),
     ] {
-        CrewRow::measure(words, w, n).print();
+        PeersRow::measure(words, w, n).print();
     }
 
     println!(
@@ -498,40 +498,40 @@ impl CodeRow {
     }
 }
 
-/// Message words of a crew whose keys lie farther from a whole number of pages apart than at
+/// Message words of peers whose keys lie farther from a whole number of pages apart than at
 /// `WORDS`: there, the places that a turn reads in all keys meet in a few sets of the cache.
 const FEWER: usize = 65_000;
 
-/// The largest crew.
+/// The most of one call.
 const PEERS: usize = pairing_agent::MOST_PEERS;
 
-/// The digests of a crew in one call, and by a word digest for each peer.
-struct CrewRow {
+/// The digests of all peers in one call, and by a word digest for each peer.
+struct PeersRow {
     words: usize,
     w: u32,
     n: usize,
     times: [Times; 2],
 }
 
-impl CrewRow {
+impl PeersRow {
     /// As for codes, a turn of short messages makes more calls than one.
-    fn measure(words: usize, w: u32, n: usize) -> CrewRow {
+    fn measure(words: usize, w: u32, n: usize) -> PeersRow {
         let (message, _) = input(w, n);
         let message = &message[..words];
         let keys: Vec<u32> = (1..=PEERS as u64)
             .flat_map(|seed| random_words(seed, w, words + n))
             .collect();
-        let (mut crew, mut digests) = (vec![0; PEERS * n], vec![1; PEERS * n]);
+        let (mut rows, mut digests) = (vec![0; PEERS * n], vec![1; PEERS * n]);
         let times = race([
             Box::new(|| {
                 for _ in 0..Self::calls(words) {
                     let (settings, peers) = (settings(black_box(w), n), PEERS as u32);
-                    pairing_agent::digest_crew(
+                    pairing_agent::digest_peers(
                         settings,
                         peers,
                         message,
                         &keys,
-                        black_box(&mut crew),
+                        black_box(&mut rows),
                     )
                     .expect("the input is fit");
                 }
@@ -544,8 +544,8 @@ impl CrewRow {
                 }
             }),
         ]);
-        assert_eq!(crew, digests, "the digests differ");
-        CrewRow { words, w, n, times }
+        assert_eq!(rows, digests, "the digests differ");
+        PeersRow { words, w, n, times }
     }
 
     fn calls(words: usize) -> usize {
@@ -553,13 +553,13 @@ impl CrewRow {
     }
 
     fn print(&self) {
-        let [crew, digests] = &self.times;
+        let [peers, digests] = &self.times;
         print!("{:7}  {:2} {:2}", self.words, self.w, self.n);
-        for times in [crew, digests] {
+        for times in [peers, digests] {
             let calls = Self::calls(self.words) as f64;
             print!("  {:7.1} us", times.fastest.as_secs_f64() * 1e6 / calls);
         }
-        let [fastest, median] = ratios([crew, digests]);
+        let [fastest, median] = ratios([peers, digests]);
         println!("       {fastest:.2} ({median:.2})");
     }
 }

@@ -1,11 +1,11 @@
 //! A scanner and a depot pair, through the proved library: once as it should go, once with a label
-//! altered on the way, once with a label that is shorter than its key asks for. Then a crew pairs
-//! together, a seed is stretched at several widths, and at last two shares are joined into a longer
-//! seed.
+//! altered on the way, once with a label that is shorter than its key asks for. Then three
+//! scanners pair together, a seed is stretched at several widths, and at last two shares are joined
+//! into a longer seed.
 
 #![forbid(unsafe_code)]
 
-use pairing_agent::{digest_bytes, digest_crew, digest_words, digests_match};
+use pairing_agent::{digest_bytes, digest_peers, digest_words, digests_match};
 use pairing_agent::{load_array, stretch, stretch_array, Refusal, Settings, MOST_SEED_WORDS};
 
 /// What both ends have agreed on.
@@ -18,7 +18,7 @@ const SETTINGS: Settings = Settings {
 /// What the two ends share. Drawing it is not the toolkit's part; here it is the same in every run.
 const SEED: u32 = 0x5eed_2024;
 
-const LABEL: &str = "depot 7, gate B, scanner 0451, serial 8C-22-F1-90";
+const MESSAGE: &str = "depot 7, gate B, scanner 0451, serial 8C-22-F1-90";
 
 fn main() {
     let Settings { width, words, .. } = SETTINGS;
@@ -33,8 +33,8 @@ fn main() {
             println!("   {line}");
         }
     }
-    println!("\n4. A crew of scanners pairs with a shift leader, who digests for all in one call");
-    for line in crew().expect("the crew is fit") {
+    println!("\n4. Three scanners pair with a shift leader, who digests for all in one call");
+    for line in peers().expect("the peers are fit") {
         println!("   {line}");
     }
     println!(
@@ -54,14 +54,14 @@ fn main() {
 /// What can happen to the label on the way.
 fn arrivals() -> [(&'static str, String); 3] {
     [
-        ("1. The label arrives as it was sent", LABEL.into()),
+        ("1. The label arrives as it was sent", MESSAGE.into()),
         (
             "2. The label is altered on the way",
-            LABEL.replace("0451", "0457"),
+            MESSAGE.replace("0451", "0457"),
         ),
         (
             "3. A part of the label is lost on the way",
-            LABEL.replace(", serial 8C-22-F1-90", ""),
+            MESSAGE.replace(", serial 8C-22-F1-90", ""),
         ),
     ]
 }
@@ -69,10 +69,10 @@ fn arrivals() -> [(&'static str, String); 3] {
 /// One pairing, told line by line: the scanner sends its label, the depot digests what arrives.
 fn pairing(arrived: &str) -> Vec<String> {
     let mut lines = vec![
-        format!("scanner's label   {LABEL}"),
+        format!("scanner's label   {MESSAGE}"),
         format!("depot's label     {arrived}"),
     ];
-    match enrol(LABEL, arrived, &mut lines) {
+    match enrol(MESSAGE, arrived, &mut lines) {
         Ok(true) => lines.push("agent             match: the network key would be issued".into()),
         Ok(false) => lines.push("agent             no match: no network key".into()),
         Err(refusal) => {
@@ -81,7 +81,7 @@ fn pairing(arrived: &str) -> Vec<String> {
                 "agent             refused with {number} {refusal:?}: no network key"
             ));
             lines.push(format!("advice            {refusal}"));
-            lines.extend(own_key(LABEL, arrived).expect("a label's own key is fit"));
+            lines.extend(own_key(MESSAGE, arrived).expect("a label's own key is fit"));
         }
     }
     lines
@@ -115,37 +115,37 @@ fn own_key(sent: &str, arrived: &str) -> Result<Vec<String>, Refusal> {
     ])
 }
 
-/// How many key words a label takes.
-fn needed(label: &str) -> usize {
-    SETTINGS.key_words(SETTINGS.words_of_bytes(label.len()))
+/// How many key words a message takes.
+fn needed(message: &str) -> usize {
+    SETTINGS.key_words(SETTINGS.words_of_bytes(message.len()))
 }
 
-/// What one end does: stretch the key, digest the label.
-fn digest(label: &str, key_words: usize) -> Result<[u32; SETTINGS.words as usize], Refusal> {
+/// What one end does: stretch the key, digest the message.
+fn digest(message: &str, key_words: usize) -> Result<[u32; SETTINGS.words as usize], Refusal> {
     let mut key = vec![0; key_words];
     stretch(SETTINGS.width, SEED, &mut key)?;
     let mut digest = [0; SETTINGS.words as usize];
-    digest_bytes(SETTINGS, label.as_bytes(), &key, &mut digest)?;
+    digest_bytes(SETTINGS, message.as_bytes(), &key, &mut digest)?;
     Ok(digest)
 }
 
-/// The message of a crew, in words: depot, gate, shift.
+/// The message that several scanners share, of words: depot, gate, shift.
 const SHIFT: [u32; 3] = [7, 2, 20_241_116];
 
-/// A seed for each scanner of a crew.
-const CREW: [u32; 3] = [0x5eed_0451, 0x5eed_0452, 0x5eed_0453];
+/// A seed for each of them.
+const PEERS: [u32; 3] = [0x5eed_0451, 0x5eed_0452, 0x5eed_0453];
 
 /// Each scanner digests under its own key; the leader holds the keys of all, and digests once.
-fn crew() -> Result<Vec<String>, Refusal> {
+fn peers() -> Result<Vec<String>, Refusal> {
     const WORDS: usize = SETTINGS.words as usize;
-    let mut keys = [[0; SHIFT.len() + WORDS]; CREW.len()];
-    for (key, seed) in keys.iter_mut().zip(CREW) {
+    let mut keys = [[0; SHIFT.len() + WORDS]; PEERS.len()];
+    for (key, seed) in keys.iter_mut().zip(PEERS) {
         stretch(SETTINGS.width, seed, key)?;
     }
-    let mut rows = [0; CREW.len() * WORDS];
-    digest_crew(
+    let mut rows = [0; PEERS.len() * WORDS];
+    digest_peers(
         SETTINGS,
-        CREW.len() as u32,
+        PEERS.len() as u32,
         &SHIFT,
         &keys.concat(),
         &mut rows,
@@ -259,9 +259,9 @@ fn the_agent_issues_one_key() {
 }
 
 #[test]
-fn every_scanner_of_the_crew_pairs() {
-    let lines = crew().unwrap();
-    assert_eq!(lines.len(), CREW.len());
+fn every_peer_pairs() {
+    let lines = peers().unwrap();
+    assert_eq!(lines.len(), PEERS.len());
     assert!(lines.iter().all(|line| line.ends_with(": match")));
 }
 

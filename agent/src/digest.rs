@@ -159,10 +159,10 @@ impl Settings {
     /// ```
     /// let settings = pairing_agent::Settings { width: 8, kept: 8, words: 1 };
     /// let key = [7, 9, 200];
-    /// // Each label takes as many first words of one key as it needs.
-    /// let digest = |label: &[u8]| {
-    ///     let needed = settings.key_words(settings.words_of_bytes(label.len()));
-    ///     settings.digest_bytes(label, &key[..needed])
+    /// // Each message takes as many first words of one key as it needs.
+    /// let digest = |message: &[u8]| {
+    ///     let needed = settings.key_words(settings.words_of_bytes(message.len()));
+    ///     settings.digest_bytes(message, &key[..needed])
     /// };
     /// assert_eq!(digest(&[])?.to_string(), "00000084");
     /// assert!(digest(&[])? != digest(&[0x11])?);

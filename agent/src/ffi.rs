@@ -45,7 +45,7 @@ mod entry {
             out_bytes: usize,
         ) -> u32;
 
-        pub fn pairing_digest_crew(
+        pub fn pairing_digest_peers(
             w: u32,
             b: u32,
             n: u32,
@@ -173,9 +173,9 @@ pub fn digest_code(width: u32, digits: u32, message: &[u32], key: &[u32], out: &
     }
 }
 
-/// The number that `pairing_digest_crew` answers: 0 with the digests in `out`, or a refusal's.
+/// The number that `pairing_digest_peers` answers: 0 with the digests in `out`, or a refusal's.
 #[must_use]
-pub fn digest_crew(
+pub fn digest_peers(
     settings: Settings,
     peers: u32,
     message: &[u32],
@@ -184,7 +184,7 @@ pub fn digest_crew(
 ) -> u32 {
     // SAFETY: each pointer and length is one slice's; `out` is borrowed apart from the others.
     unsafe {
-        entry::pairing_digest_crew(
+        entry::pairing_digest_peers(
             settings.width,
             settings.kept,
             settings.words,

@@ -48,8 +48,8 @@
 //! where F is (2^w − 1) div 10^d. Length is in words.
 //! Bytes are closed, so the first count holds of different bytes of any lengths: over all keys of
 //! T + n words, where both make at most T words and each is digested under as many first words of
-//! the key as it needs, at most 2^(w·T + n + n·(w−b)) make them agree. Each row of a crew is the
-//! digest under one peer's key alone, so each peer has these counts.
+//! the key as it needs, at most 2^(w·T + n + n·(w−b)) make them agree. Of several peers, each
+//! row is the digest under one peer's key alone, so each peer has these counts.
 
 #![deny(unsafe_code)]
 #![deny(missing_docs)]
@@ -79,7 +79,7 @@ pub const MOST_SEED_WORDS: usize = 8;
 /// The most words of a digest.
 pub const MOST_DIGEST_WORDS: usize = 8;
 
-/// The most peers of a crew.
+/// The most peers of one call.
 pub const MOST_PEERS: usize = 16;
 
 /// Writes the digest of `message` under `key` into the first places of `out`, one for each digest
@@ -139,9 +139,9 @@ pub fn digest_words(
 /// let settings = Settings { width: 8, kept: 8, words: 1 };
 /// let key = [7, 9, 200];
 /// let mut digests = [[0], [0]];
-/// for (label, digest) in [&[][..], &[0x11]].into_iter().zip(&mut digests) {
-///     let needed = settings.key_words(settings.words_of_bytes(label.len()));
-///     digest_bytes(settings, label, &key[..needed], digest)?;
+/// for (message, digest) in [&[][..], &[0x11]].into_iter().zip(&mut digests) {
+///     let needed = settings.key_words(settings.words_of_bytes(message.len()));
+///     digest_bytes(settings, message, &key[..needed], digest)?;
 /// }
 /// assert_eq!(digests, [[0x84], [0x5b]]);
 /// assert!(!digests_match(1, &digests[0], &digests[1])?);
@@ -205,13 +205,13 @@ pub fn digest_code(
 /// other, each key begins in another's words: hand on only keys that have been measured.
 ///
 /// ```
-/// use pairing_agent::{digest_crew, Settings};
+/// use pairing_agent::{digest_peers, Settings};
 ///
 /// // Two peers, a message of two words, and a key of three for each.
 /// let settings = Settings { width: 8, kept: 8, words: 1 };
 /// let keys = [[10, 20, 100], [20, 100, 250]].concat();
 /// let mut digests = [0; 2];
-/// digest_crew(settings, 2, &[3, 7], &keys, &mut digests)?;
+/// digest_peers(settings, 2, &[3, 7], &keys, &mut digests)?;
 /// assert_eq!(digests, [0xac, 0xff]);
 /// # Ok::<(), pairing_agent::Refusal>(())
 /// ```
@@ -220,14 +220,14 @@ pub fn digest_code(
 ///
 /// `Width`, or `Kept` to `Word` with `Peers` after `Count`, as the library's tests find; `out` then
 /// holds what it held.
-pub fn digest_crew(
+pub fn digest_peers(
     settings: Settings,
     peers: u32,
     message: &[u32],
     keys: &[u32],
     out: &mut [u32],
 ) -> Result<(), Refusal> {
-    written(ffi::digest_crew(settings, peers, message, keys, out))
+    written(ffi::digest_peers(settings, peers, message, keys, out))
 }
 
 /// Fills the whole of `key` with words of `width` bits, each the upper bits of the next output of
@@ -346,8 +346,8 @@ pub fn digests_match(words: u32, first: &[u32], second: &[u32]) -> Result<bool, 
 /// the minor one and the patch. It is this crate's: the build looks, and fails on another.
 ///
 /// ```
-/// // 0.7.0 or later.
-/// assert!(pairing_agent::version() >= 700);
+/// // 0.8.0 or later.
+/// assert!(pairing_agent::version() >= 800);
 /// ```
 #[must_use]
 pub fn version() -> u32 {

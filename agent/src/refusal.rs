@@ -10,28 +10,38 @@ use std::fmt;
 #[derive(Clone, Copy, Debug, PartialEq, Eq, Hash)]
 #[non_exhaustive]
 #[repr(u32)]
+// begin: made by tools/answers.py from answers.toml
 pub enum Refusal {
-    /// A state that was handed in is none that the library leaves. No call of this crate takes one.
+    /// The state of a stream or generator holds a number outside its range, or something in a place
+    /// not in use. Only calls from Rattle take a state: no C entry, Rust function or command
+    /// answers this.
     State = 8,
-    /// The width is not 1 to 32 bits; for bytes, not 8, 16 or 32.
+    /// The width w is not 1 to 32; for bytes, not 8, 16 or 32.
     Width = 1,
-    /// The code is to have no digits, or more than the width can fill.
+    /// The code's digits d are 0, or 10^d is more than 2^w: widths 30 to 32 take up to 9 digits,
+    /// widths 1 to 3 none.
     Digits = 9,
     /// The seed array has no words, or more than 8.
     Seed = 11,
-    /// No bits are kept, or more than the width has.
+    /// The kept bits b are 0, or more than the width w.
     Kept = 2,
-    /// The digest is not to have 1 to 8 words.
+    /// The digest words n are not 1 to 8.
     Count = 3,
-    /// The crew is not of 1 to 16 peers.
+    /// The peers p are not 1 to 16.
     Peers = 10,
-    /// The message, or a row to stretch or load into, is too long.
+    /// The message, or the message row of a load, has more than 65,536 words, for bytes counted
+    /// with the closing byte 0x80, in a stream with the words taken before; or a stretch, or the
+    /// key row of a load, has more than 65,544.
     Long = 4,
-    /// The key's length does not go with the message's.
+    /// The key does not have exactly n words more than the message, for bytes counted with the
+    /// closing byte 0x80; for a code, not one word more; for p peers, the keys do not have p times
+    /// as many words together. In a stream: the opening key does not have n words, or a push has
+    /// more words of one kind than of the other.
     Key = 5,
-    /// The output is too short, or a row to match is not as long as the digest.
+    /// The output has fewer places than the call writes: n, for a code (d+1)/2 bytes rounded down,
+    /// for p peers p times n. In a match: a row does not have exactly n words.
     Tray = 6,
-    /// A message or key word is too large for the width.
+    /// A word of the message, or of any key, has more than w bits: it is 2^w or more.
     Word = 7,
 }
 
@@ -51,20 +61,6 @@ impl Refusal {
         Refusal::Word,
     ];
 
-    /// The number that the library answers for this refusal.
-    #[must_use]
-    pub const fn number(self) -> u32 {
-        self as u32
-    }
-
-    /// The refusal of that number, if there is one.
-    #[must_use]
-    pub fn from_number(number: u32) -> Option<Refusal> {
-        Refusal::ALL
-            .into_iter()
-            .find(|refusal| refusal.number() == number)
-    }
-
     /// What is wrong, in a few words. The refusal's own text is this and what to do.
     const fn fault(self) -> &'static str {
         match self {
@@ -74,9 +70,10 @@ impl Refusal {
             Refusal::Seed => "wrong seed size",
             Refusal::Kept => "wrong kept bits",
             Refusal::Count => "wrong digest size",
-            Refusal::Peers => "wrong crew size",
+            Refusal::Peers => "wrong number of peers",
             Refusal::Long => "too long",
-            Refusal::Key | Refusal::Tray => "wrong lengths",
+            Refusal::Key => "wrong lengths",
+            Refusal::Tray => "wrong lengths",
             Refusal::Word => "word too large",
         }
     }
@@ -106,43 +103,61 @@ impl Refusal {
         }
     }
 
-    /// When the library gives it, as a sentence.
+    /// When the library gives it, in sentences.
     #[must_use]
     pub const fn given_when(self) -> &'static str {
         match self {
             Refusal::State => {
                 "The state of a stream or generator holds a number outside its range, or something \
-                 in a place not in use. Digest, code, crew, match, stretch and load take no state \
-                 and never answer this."
+                 in a place not in use. Only calls from Rattle take a state: no C entry, Rust \
+                 function or command answers this."
             }
-            Refusal::Width => {
-                "The width w is 0 or more than 32; for bytes, it is none of 8, 16 and 32."
-            }
+            Refusal::Width => "The width w is not 1 to 32; for bytes, not 8, 16 or 32.",
             Refusal::Digits => {
-                "The code's digits d are 0, or 10^d is more than 2^w. Widths 30 to 32 take up to \
-                 9 digits, widths 1 to 3 none."
+                "The code's digits d are 0, or 10^d is more than 2^w: widths 30 to 32 take up to 9 \
+                 digits, widths 1 to 3 none."
             }
             Refusal::Seed => "The seed array has no words, or more than 8.",
             Refusal::Kept => "The kept bits b are 0, or more than the width w.",
-            Refusal::Count => "The digest words n are 0, or more than 8.",
-            Refusal::Peers => "The peers p of a crew are 0, or more than 16.",
+            Refusal::Count => "The digest words n are not 1 to 8.",
+            Refusal::Peers => "The peers p are not 1 to 16.",
             Refusal::Long => {
                 "The message, or the message row of a load, has more than 65,536 words, for bytes \
-                 counted with the closing byte 0x80, or a key of more than 65,544 is stretched or \
-                 loaded."
+                 counted with the closing byte 0x80, in a stream with the words taken before; or a \
+                 stretch, or the key row of a load, has more than 65,544."
             }
             Refusal::Key => {
                 "The key does not have exactly n words more than the message, for bytes counted \
-                 with the closing byte 0x80, or for a code one word more; or the keys of a crew do \
-                 not have p times as many words. In a stream: the opening key does not have n \
-                 words, or a push has more words of one kind than of the other."
+                 with the closing byte 0x80; for a code, not one word more; for p peers, the keys \
+                 do not have p times as many words together. In a stream: the opening key does not \
+                 have n words, or a push has more words of one kind than of the other."
             }
             Refusal::Tray => {
-                "The output has fewer places than the call writes. In a match: a row does not have \
-                 exactly n words."
+                "The output has fewer places than the call writes: n, for a code (d+1)/2 bytes \
+                 rounded down, for p peers p times n. In a match: a row does not have exactly n \
+                 words."
             }
-            Refusal::Word => "A word of the message or of the key has more than w bits.",
+            Refusal::Word => {
+                "A word of the message, or of any key, has more than w bits: it is 2^w or more."
+            }
         }
+    }
+}
+// end: made by tools/answers.py from answers.toml
+
+impl Refusal {
+    /// The number that the library answers for this refusal.
+    #[must_use]
+    pub const fn number(self) -> u32 {
+        self as u32
+    }
+
+    /// The refusal of that number, if there is one.
+    #[must_use]
+    pub fn from_number(number: u32) -> Option<Refusal> {
+        Refusal::ALL
+            .into_iter()
+            .find(|refusal| refusal.number() == number)
     }
 }
 
@@ -162,11 +177,12 @@ mod tests {
     fn numbers_and_refusals_go_together() {
         let mut numbers = Refusal::ALL.map(Refusal::number);
         numbers.sort_unstable();
-        assert_eq!(numbers, [1, 2, 3, 4, 5, 6, 7, 8, 9, 10, 11]);
+        let last = Refusal::ALL.len() as u32;
+        assert!(numbers.into_iter().eq(1..=last), "{numbers:?}");
         for refusal in Refusal::ALL {
             assert_eq!(Refusal::from_number(refusal.number()), Some(refusal));
         }
-        for number in [0, 12, 13, 99, 100, 101, 256 + 1, u32::MAX] {
+        for number in [0, last + 1, 99, 100, 101, 256 + 1, u32::MAX] {
             assert_eq!(Refusal::from_number(number), None);
         }
     }

@@ -52,9 +52,9 @@ impl Settings {
     /// than 8, 16 and 32, which no bytes fill.
     ///
     /// So calls that take words, as [`digest_code`](crate::digest_code) and
-    /// [`digest_crew`](crate::digest_crew) do, can take a label: the digest of these words is the one
-    /// that [`digest_bytes`](crate::digest_bytes) gives of the bytes. That is tested, and not proved:
-    /// the library closes bytes itself.
+    /// [`digest_peers`](crate::digest_peers) do, can take a label: the digest of these words is the
+    /// one that [`digest_bytes`](crate::digest_bytes) gives of the bytes. That is tested, and not
+    /// proved: the library closes bytes itself.
     ///
     /// ```
     /// let settings = pairing_agent::Settings { width: 32, kept: 32, words: 1 };

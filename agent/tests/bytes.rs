@@ -143,14 +143,14 @@ fn a_byte_at_every_place() {
     }
 }
 
-/// A label with zero bytes added is another message: under the same key its digest is another, or
+/// A message with zero bytes added is another one: under the same key its digest is another, or
 /// it has more words and needs a longer key.
 #[test]
 fn zero_bytes_at_the_end_count() {
     for w in WIDTHS_OF_BYTES {
         for bytes in 0..=40 {
             let mut call = fit(w, 8, bytes);
-            let of_label = digest(&call, &call.message);
+            let of_message = digest(&call, &call.message);
             for length in bytes + 1..=bytes + 9 {
                 call.message.push(0);
                 let same_words = words_made(w, length) == words_made(w, bytes);
@@ -158,7 +158,7 @@ fn zero_bytes_at_the_end_count() {
                 assert_eq!(answer(&call), due, "w {w}, {bytes} of {length}");
                 if same_words {
                     let of_longer = digest(&call, &call.message);
-                    assert_ne!(of_longer, of_label, "w {w}, {bytes} of {length}");
+                    assert_ne!(of_longer, of_message, "w {w}, {bytes} of {length}");
                 }
             }
         }
@@ -383,7 +383,7 @@ fn closed_words_are_those_of_the_paper() {
     }
     // No bytes fill the words of another width.
     for w in (0..=40).filter(|w| !WIDTHS_OF_BYTES.contains(w)) {
-        assert_eq!(settings(w, 1, 1).closed_words(b"label"), [], "w {w}");
+        assert_eq!(settings(w, 1, 1).closed_words(b"depot"), [], "w {w}");
     }
 }
 

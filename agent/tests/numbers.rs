@@ -1,6 +1,7 @@
 //! Every list of the answers' numbers is the same list: the proved library's constants, the C
-//! header, `Refusal`, the README's table and `pairing explain`. So are the limits and the version, and
-//! the README's lines of Rust are the crate's.
+//! header, `Refusal`, the README's table and `pairing explain`. One script writes them all; here each
+//! is read for itself. So are the limits and the version, and the README's lines of Rust are the
+//! crate's.
 
 #![forbid(unsafe_code)]
 

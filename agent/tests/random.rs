@@ -69,11 +69,11 @@ fn digest_code() {
     });
 }
 
-/// A crew's rows are longer, so its long ones are rarer.
+/// The rows of several peers are longer, so the long ones are rarer.
 #[test]
-fn digest_crew() {
+fn digest_peers() {
     tally(20_250_306, &[0, 1, 2, 3, 4, 5, 6, 7, 10], |random| {
-        cases::crew(random, 8 * RARE)
+        cases::peers(random, 8 * RARE)
     });
 }
 

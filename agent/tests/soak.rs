@@ -1,5 +1,5 @@
 //! Ten million random calls through the C interface against independent implementations: for
-//! bytes, codes, crews, stretches and loads, others than those that the other tests compare with.
+//! bytes, codes, peers, stretches and loads, others than those that the other tests compare with.
 //!
 //! Not part of the gate: `make soak` runs it. It stops after ten minutes and says how far it came.
 //! PAIRING_SOAK_CALLS and PAIRING_SOAK_SEED set other numbers.
@@ -8,7 +8,7 @@
 
 mod common;
 
-use common::calls::{settings, Call, Code, Crew, Digest, Load, Stretch};
+use common::calls::{settings, Call, Code, Digest, Load, Peers, Stretch};
 use common::paper::{self, Outcome};
 use common::random::Random;
 use common::{cases, from_environment};
@@ -67,8 +67,8 @@ impl Tally {
     fn make_a_call(&mut self, random: &mut Random) {
         match random.below(13) {
             12 => {
-                let call = cases::crew(random, 8 * RARE);
-                self.make(&call, &crew_due(&call), random);
+                let call = cases::peers(random, 8 * RARE);
+                self.make(&call, &peers_due(&call), random);
             }
             0..=3 => {
                 let call = cases::digest::<u32>(random, RARE);
@@ -148,10 +148,10 @@ fn bytes_due(call: &Digest<u8>) -> Outcome {
     paper::digest_words(call.settings, &words, &call.key, &call.out)
 }
 
-/// What the crew must leave: the word digests under each key, by a call of its own for each peer. A
-/// key that is refused refuses them all, and the words of every key are looked at first.
-fn crew_due(call: &Crew) -> Outcome {
-    let Crew {
+/// What a call of peers must leave: the word digests under each key, by a call of its own for each
+/// peer. A key that is refused refuses them all, and the words of every key are looked at first.
+fn peers_due(call: &Peers) -> Outcome {
+    let Peers {
         settings, peers, ..
     } = *call;
     let n = settings.words as usize;

@@ -1,5 +1,5 @@
-//! Labels of unlike length under one key: each is digested under as many first words of it as it
-//! needs. The counts are made with the library's own calls, over all keys.
+//! Byte messages of unlike length under one key: each is digested under as many first words of it as
+//! it needs. The counts are made with the library's own calls, over all keys.
 
 #![forbid(unsafe_code)]
 
@@ -13,12 +13,12 @@ use pairing_agent::{ffi, Settings};
 /// The bound at width 8 with every bit kept, one digest word and two message words.
 const BOUND: u32 = 1 << (8 * 2 + 1);
 
-/// The label's digest under the first words of the key, as many as it needs.
-fn digest(settings: Settings, label: &[u8], key: &[u32]) -> Vec<u32> {
-    let needed = settings.key_words(settings.words_of_bytes(label.len()));
+/// The message's digest under the first words of the key, as many as it needs.
+fn digest(settings: Settings, message: &[u8], key: &[u32]) -> Vec<u32> {
+    let needed = settings.key_words(settings.words_of_bytes(message.len()));
     let mut out = vec![0; settings.words as usize];
-    let number = ffi::digest_bytes(settings, label, &key[..needed], &mut out);
-    assert_eq!(number, 0, "{settings:?}, {} bytes", label.len());
+    let number = ffi::digest_bytes(settings, message, &key[..needed], &mut out);
+    assert_eq!(number, 0, "{settings:?}, {} bytes", message.len());
     out
 }
 
@@ -40,16 +40,16 @@ fn key(w: u32, words: usize, random: &mut Random) -> Vec<u32> {
 }
 
 /// How many keys of three words, at width 8 with every bit kept and one digest word, make the two
-/// labels match. A label of one byte makes two words, one of no bytes makes one.
+/// messages match. One of one byte makes two words, one of no bytes makes one.
 fn matching_keys(first: &[u8], second: &[u8]) -> u32 {
     let settings = settings(8, 8, 1);
     let mut rows = [[0], [0]];
     let mut count = 0;
     for number in 0..1 << 24 {
         let key = [number >> 16, number >> 8 & 255, number & 255];
-        for (label, row) in [first, second].into_iter().zip(&mut rows) {
-            let key = &key[..label.len() + 2];
-            assert_eq!(ffi::digest_bytes(settings, label, key, row), 0);
+        for (message, row) in [first, second].into_iter().zip(&mut rows) {
+            let key = &key[..message.len() + 2];
+            assert_eq!(ffi::digest_bytes(settings, message, key, row), 0);
         }
         match ffi::digests_match(1, &rows[0], &rows[1]) {
             100 => count += 1,
@@ -64,58 +64,58 @@ fn matching_keys(first: &[u8], second: &[u8]) -> u32 {
 mod all_keys {
     use super::{matching_keys, BOUND};
 
-    /// The count of the program `count_labels` for one label, with a call for each key.
+    /// The count of the program `run_lengths` for one message, with a call for each key.
     #[test]
     fn no_byte_and_one() {
         assert_eq!(matching_keys(&[], &[0x11]), 65_536);
     }
 
-    /// The same for every label.
+    /// The same for every message.
     #[test]
     #[ignore = "takes minutes"]
     fn no_byte_and_each_one() {
         for byte in 0..=255 {
-            assert_eq!(matching_keys(&[], &[byte]), 65_536, "label {byte}");
+            assert_eq!(matching_keys(&[], &[byte]), 65_536, "byte {byte}");
         }
     }
 
-    /// Labels of one length come nearer to the bound, which is the same for them.
+    /// Messages of one length come nearer to the bound, which is the same for them.
     #[test]
-    fn two_labels_of_one_byte() {
+    fn two_messages_of_one_byte() {
         let count = matching_keys(&[1], &[0x11]);
         assert_eq!(count, 126_976);
         assert!(count <= BOUND);
     }
 }
 
-/// A label has under its first words of a key the digest that its words, filled up with zero words,
-/// have under the whole key: in the library, and by the implementation beside it.
+/// A message has under its first words of a key the digest that its words, filled up with zero
+/// words, have under the whole key: in the library, and by the implementation beside it.
 #[test]
 fn first_words_of_one_key() {
     let mut random = Random::new(17);
-    let mut labels = 0;
+    let mut messages = 0;
     for w in WIDTHS_OF_BYTES {
         for n in 1..=8 {
             for bytes in (0..=9).chain([63, 64, 255, 256, 1_023, 1_024]) {
                 let b = 1 + random.below(w as usize) as u32;
                 let settings = settings(w, b, n);
-                let label: Vec<u8> = (0..bytes).map(|_| random.byte()).collect();
-                let words = words_of_bytes(w, &label);
+                let message: Vec<u8> = (0..bytes).map(|_| random.byte()).collect();
+                let words = words_of_bytes(w, &message);
                 let most = words.len() + random.below(20);
                 let key = key(w, settings.key_words(most), &mut random);
                 let filled = filled_up(words, most);
-                let found = digest(settings, &label, &key);
+                let found = digest(settings, &message, &key);
                 assert_eq!(found, digest_words(settings, &filled, &key));
                 let due = paper::digest_words(settings, &filled, &key, &vec![0; n as usize]);
                 assert_eq!((due.answer, due.out), (0, found), "w {w}, {bytes} bytes");
-                labels += 1;
+                messages += 1;
             }
         }
     }
-    println!("first_words_of_one_key: {labels} labels");
+    println!("first_words_of_one_key: {messages} messages");
 }
 
-/// Words that are not closed: 5 and 5 0 agree under every common key. Closed labels do not.
+/// Words that are not closed: 5 and 5 0 agree under every common key. Closed bytes do not.
 #[test]
 fn five_and_five_zero() {
     let mut random = Random::new(18);
@@ -130,12 +130,12 @@ fn five_and_five_zero() {
     for w in WIDTHS_OF_BYTES {
         let settings = settings(w, w, 1);
         // Under the key 1 1 0 a digest is the sum of the words.
-        let both = [&[5][..], &[5, 0]].map(|label| digest(settings, label, &[1, 1, 0, 0]));
+        let both = [&[5][..], &[5, 0]].map(|message| digest(settings, message, &[1, 1, 0, 0]));
         assert_ne!(both[0], both[1], "w {w}");
     }
 }
 
-/// Under the key's last words in place of its first, a label of no bytes and one of a zero byte
+/// Under the key's last words in place of its first, a message of no bytes and one of a zero byte
 /// would agree at width 8 under every key.
 #[test]
 fn last_words_of_one_key() {

@@ -110,7 +110,7 @@ fn seven_bits_are_as_proved_and_as_drawn() {
     let svg = Scratch::new("seven-bits.svg", "");
     let out = accepted(&["count", "--width", "7", "--svg", svg.path()], b"");
     // The program's first lines are on digests; those after them are on codes.
-    let lines = include_str!("../../../crates/count_pairs/stdout").split_inclusive('\n');
+    let lines = include_str!("../../../crates/run_pairs/stdout").split_inclusive('\n');
     let proved: String = lines.take(5).collect();
     assert!(out.starts_with(&proved), "{out}");
     assert!(

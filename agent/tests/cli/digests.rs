@@ -105,7 +105,7 @@ fn bytes_are_closed() {
     };
     // An empty file is the one word 0x80.
     assert_eq!(digest("1 0", b""), "00000080\n");
-    // A zero byte at the end is a part of the label.
+    // A zero byte at the end is a part of the message.
     assert_eq!(digest("1 0", &[5]), "00008005\n");
     assert_eq!(digest("1 0", &[5, 0]), "00800005\n");
     // A file of exactly one word has two, and the key one more.

@@ -33,7 +33,7 @@ fn files_that_cannot_be_read_or_written() {
             &["match", "--words", "1", "0x1", &at_file],
             &["words", file],
             &["code", "--seed", "1", "--label", file],
-            &["crew", "--seeds", "-", "--label", file],
+            &["peers", "--seeds", "-", "--label", file],
         ] {
             no_access(&reading, args, b"");
         }

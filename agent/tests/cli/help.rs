@@ -18,7 +18,7 @@ const COMMANDS: [(&str, &[&str]); 10] = [
         &["--width", "--digits", "--seed", "--key", "--label"],
     ),
     (
-        "crew",
+        "peers",
         &["--width", "--kept", "--words", "--seeds", "--label"],
     ),
     ("words", &["--width"]),
@@ -86,9 +86,9 @@ fn help_has_the_limits_and_what_is_proved() {
     let proved = "This is proved for keys drawn uniformly, and not for stretched ones.";
     assert!(code.contains(&format!("\ndown. {proved}")), "{code}");
 
-    let crew = accepted(&["crew", "--help"], b"");
+    let text = accepted(&["peers", "--help"], b"");
     let peers = format!("message; 1 to {MOST_PEERS} of them\n");
-    assert!(crew.contains(&peers), "{crew}");
+    assert!(text.contains(&peers), "{text}");
 
     let stretch = accepted(&["stretch", "--help"], b"");
     let count = format!("how many words, up to {MOST_KEY_WORDS}\n");
@@ -129,7 +129,7 @@ fn help_has_the_rule_that_makes_a_pairing_safe() {
     for (command, _) in COMMANDS {
         let text = accepted(&[command, "--help"], b"");
         let rule = text.split_once("\nThe rule that makes a pairing safe:\n");
-        let takes_a_key = ["digest", "digest-words", "code", "crew", "stretch"];
+        let takes_a_key = ["digest", "digest-words", "code", "peers", "stretch"];
         assert_eq!(rule.is_some(), takes_a_key.contains(&command), "{text}");
         let Some((_, rule)) = rule else {
             continue;

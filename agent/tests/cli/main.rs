@@ -4,7 +4,6 @@
 
 mod codes;
 mod count;
-mod crews;
 mod digests;
 mod explain;
 mod files;
@@ -12,6 +11,7 @@ mod help;
 mod load;
 mod matches;
 mod output;
+mod peers;
 mod refusals;
 mod run;
 mod seeds;

@@ -1,12 +1,12 @@
-//! Labels as words, and the commands that take both.
+//! Bytes as words, and the commands that take both.
 
 use crate::run::{accepted, bad_content, refused, Scratch};
 use pairing_agent::Refusal;
 
 const WIDTHS: [&str; 3] = ["8", "16", "32"];
 
-/// Labels around the ends of words, with bytes that are no text and zeros at the end.
-const LABELS: [&[u8]; 9] = [
+/// Messages around the ends of words, with bytes that are no text and zeros at the end.
+const MESSAGES: [&[u8]; 9] = [
     b"",
     b"a",
     b"abc",
@@ -19,8 +19,8 @@ const LABELS: [&[u8]; 9] = [
 ];
 
 #[test]
-fn words_of_a_label() {
-    for (w, label, due) in [
+fn words_of_bytes() {
+    for (w, bytes, due) in [
         ("32", &b"depot 7"[..], "0x6f706564 0x80372074\n"),
         ("32", b"", "0x00000080\n"),
         ("32", b"abcd", "0x64636261 0x00000080\n"),
@@ -28,41 +28,41 @@ fn words_of_a_label() {
         ("16", b"ab", "0x00006261 0x00000080\n"),
         ("8", b"a\0", "0x00000061 0x00000000 0x00000080\n"),
     ] {
-        let file = Scratch::new("words-label", label);
+        let file = Scratch::new("words-bytes", bytes);
         let args = ["words", "--width", w];
-        assert_eq!(accepted(&[&args[..], &["-"]].concat(), label), due);
+        assert_eq!(accepted(&[&args[..], &["-"]].concat(), bytes), due);
         assert_eq!(accepted(&[&args[..], &[file.path()]].concat(), b""), due);
     }
     // The width is 32 if none is given.
     assert_eq!(accepted(&["words", "-"], b"a"), "0x00008061\n");
 }
 
-/// The words are a message with the label's digest.
+/// The words are a message with the digest of the bytes.
 #[test]
-fn words_have_the_digest_of_the_label() {
+fn words_have_the_digest_of_the_bytes() {
     for w in WIDTHS {
-        for label in LABELS {
-            let words = accepted(&["words", "--width", w, "-"], label);
+        for bytes in MESSAGES {
+            let words = accepted(&["words", "--width", w, "-"], bytes);
             assert_eq!(words.lines().count(), 1);
             let settings = ["--width", w, "--words", "3", "--seed", "9", "-"];
             let digest =
                 |command, message: &[u8]| accepted(&[&[command], &settings[..]].concat(), message);
             let of_words = digest("digest-words", words.as_bytes());
-            assert_eq!(of_words, digest("digest", label), "{w}, {label:?}");
+            assert_eq!(of_words, digest("digest", bytes), "{w}, {bytes:?}");
         }
     }
 }
 
 #[test]
-fn code_and_crew_take_a_label() {
-    let seeds = Scratch::new("label-seeds", "9\n10\n");
+fn code_and_peers_take_bytes() {
+    let seeds = Scratch::new("bytes-seeds", "9\n10\n");
     for w in WIDTHS {
-        for label in LABELS {
-            let words = accepted(&["words", "--width", w, "-"], label);
-            let file = Scratch::new("label", label);
+        for bytes in MESSAGES {
+            let words = accepted(&["words", "--width", w, "-"], bytes);
+            let file = Scratch::new("bytes", bytes);
             let code = ["code", "--width", w, "--digits", "2", "--seed", "9"];
-            let crew = [
-                "crew",
+            let peers = [
+                "peers",
                 "--width",
                 w,
                 "--words",
@@ -70,32 +70,32 @@ fn code_and_crew_take_a_label() {
                 "--seeds",
                 seeds.path(),
             ];
-            for args in [&code[..], &crew] {
+            for args in [&code[..], &peers] {
                 let due = accepted(&[args, &["-"]].concat(), words.as_bytes());
                 let of_file = accepted(&[args, &["--label", file.path()]].concat(), b"");
-                assert_eq!(of_file, due, "{args:?}, {label:?}");
-                let of_input = accepted(&[args, &["--label=-"]].concat(), label);
-                assert_eq!(of_input, due, "{args:?}, {label:?}");
+                assert_eq!(of_file, due, "{args:?}, {bytes:?}");
+                let of_input = accepted(&[args, &["--label=-"]].concat(), bytes);
+                assert_eq!(of_input, due, "{args:?}, {bytes:?}");
             }
-            // Each line of the crew is the label's own digest.
+            // Each peer's line is the digest of the bytes.
             let digests = ["9", "10"].map(|seed| {
                 let args = ["digest", "--width", w, "--words", "2", "--seed", seed, "-"];
-                accepted(&args, label)
+                accepted(&args, bytes)
             });
-            let args = [&crew[..], &["--label", file.path()]].concat();
+            let args = [&peers[..], &["--label", file.path()]].concat();
             assert_eq!(accepted(&args, b""), digests.concat());
         }
     }
     // With keys of their own.
-    let key = Scratch::new("label-key", "1 0 0");
-    let args = ["crew", "--label=-", key.path(), key.path()];
+    let key = Scratch::new("bytes-key", "1 0 0");
+    let args = ["peers", "--label=-", key.path(), key.path()];
     assert_eq!(accepted(&args, b"abcd"), "64636261\n64636261\n");
 }
 
 /// The width comes first, then the tests of the command, in their order.
 #[test]
-fn refusals_of_a_label() {
-    let seeds = Scratch::new("label-refused-seeds", "9");
+fn refusals_of_bytes() {
+    let seeds = Scratch::new("bytes-refused-seeds", "9");
     let with_seeds = ["--seeds", seeds.path(), "--label=-"];
     let long = vec![7; 65_536];
     for w in ["0", "1", "24", "31", "33"] {
@@ -104,7 +104,7 @@ fn refusals_of_a_label() {
         for args in [
             &["words", &width, "-"][..],
             &["code", &width, "--digits=0", "--seed=,", "--label=-"],
-            &[&["crew", &width, "--kept=0"], &with_seeds[..]].concat(),
+            &[&["peers", &width, "--kept=0"], &with_seeds[..]].concat(),
         ] {
             refused(Refusal::Width, &figures, args, b"abc");
             refused(Refusal::Width, &figures, args, &long);
@@ -114,7 +114,7 @@ fn refusals_of_a_label() {
     for args in [
         &["words", "--width=8", "-"][..],
         &["code", "--width=8", "--digits=1", "--seed=1", "--label=-"],
-        &[&["crew", "--width=8"], &with_seeds[..]].concat(),
+        &[&["peers", "--width=8"], &with_seeds[..]].concat(),
     ] {
         refused(Refusal::Long, figures, args, &long);
         accepted(args, &long[1..]);
@@ -122,11 +122,11 @@ fn refusals_of_a_label() {
     let args = ["code", "--width=8", "--digits=3", "--seed=1", "--label=-"];
     let figures = "3 digits; 1 to 2 at width 8";
     refused(Refusal::Digits, figures, &args, &long);
-    let key = Scratch::new("label-refused-key", "1 2 3");
+    let key = Scratch::new("bytes-refused-key", "1 2 3");
     let args = ["code", "--key", key.path(), "--label=-"];
     let figures = "a key of 3 words; a message of 3 and a digest of 1 take 4";
     refused(Refusal::Key, figures, &args, b"12345678");
-    let args = ["crew", "--label=-", key.path()];
+    let args = ["peers", "--label=-", key.path()];
     refused(
         Refusal::Key,
         &format!("peer 1: {figures}"),
@@ -135,15 +135,15 @@ fn refusals_of_a_label() {
     );
 }
 
-/// What is no row of words may be a label.
+/// What is no row of words may be bytes.
 #[test]
-fn a_label_in_the_place_of_words() {
+fn bytes_in_the_place_of_words() {
     let why = "; for a label write --label FILE\n";
-    let seeds = Scratch::new("label-place-seeds", "9");
-    for label in [&b"depot 7, gate B"[..], b"\xff\xfe", b"\xc3(", b"1 2 x"] {
-        let file = Scratch::new("label-place", label);
+    let seeds = Scratch::new("bytes-place-seeds", "9");
+    for bytes in [&b"depot 7, gate B"[..], b"\xff\xfe", b"\xc3(", b"1 2 x"] {
+        let file = Scratch::new("bytes-place", bytes);
         bad_content(why, &["code", "--seed", "1", file.path()], b"");
-        bad_content(why, &["crew", "--seeds", seeds.path(), file.path()], b"");
+        bad_content(why, &["peers", "--seeds", seeds.path(), file.path()], b"");
         // A key is none.
         let run = crate::run::pairing(&["code", "--key", file.path(), "-"]);
         assert_eq!(run.status, 65);

@@ -269,9 +269,9 @@ impl Call for Code {
     }
 }
 
-/// A call of a crew's digests.
+/// A call of the peers' digests.
 #[derive(Clone, Debug)]
-pub struct Crew {
+pub struct Peers {
     pub settings: Settings,
     pub peers: u32,
     pub message: Vec<u32>,
@@ -279,16 +279,16 @@ pub struct Crew {
     pub out: Vec<u32>,
 }
 
-impl Crew {
+impl Peers {
     /// A call that is accepted, of that many peers and message words.
-    pub fn fit(settings: Settings, peers: u32, words: usize) -> Crew {
+    pub fn fit(settings: Settings, peers: u32, words: usize) -> Peers {
         let n = settings.words as usize;
         let mut random = Random::new(u64::from(settings.width) + 100 * words as u64);
         let mut row = |words| -> Vec<u32> {
             let word = |_| random.word() >> (32 - settings.width);
             (0..words).map(word).collect()
         };
-        Crew {
+        Peers {
             settings,
             peers,
             message: row(words),
@@ -312,29 +312,29 @@ impl Crew {
     }
 }
 
-impl Call for Crew {
-    const ENTRY: &'static str = "digest_crew";
+impl Call for Peers {
+    const ENTRY: &'static str = "digest_peers";
     type Place = u32;
 
     fn due(&self) -> Outcome {
-        let Crew { message, keys, .. } = self;
-        paper::digest_crew(self.settings, self.peers, message, keys, &self.out)
+        let Peers { message, keys, .. } = self;
+        paper::digest_peers(self.settings, self.peers, message, keys, &self.out)
     }
 
     fn number(&self, due: &Outcome, random: &mut Random) -> Made {
         self.rows().number(due, random, |message, keys, out| {
-            ffi::digest_crew(self.settings, self.peers, message, keys, out)
+            ffi::digest_peers(self.settings, self.peers, message, keys, out)
         })
     }
 
     fn result(&self, due: &Outcome) -> Made {
         self.rows().result(due, |message, keys, out| {
-            pairing_agent::digest_crew(self.settings, self.peers, message, keys, out)
+            pairing_agent::digest_peers(self.settings, self.peers, message, keys, out)
         })
     }
 
     fn sizes(&self) -> String {
-        let Crew {
+        let Peers {
             settings, peers, ..
         } = self;
         format!("{settings:?}, {peers} peers, {}", self.rows().sizes())

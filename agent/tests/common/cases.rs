@@ -2,7 +2,7 @@
 //!
 //! `rare` makes long rows that many times rarer, for tests that make more calls.
 
-use super::calls::{self, Code, Crew, Digest, Load, Match, Stretch};
+use super::calls::{self, Code, Digest, Load, Match, Peers, Stretch};
 use super::paper;
 use super::part::Part;
 use super::random::Random;
@@ -79,8 +79,8 @@ pub fn digest<P: Drawn>(random: &mut Random, rare: usize) -> Digest<P> {
     with_rows(random, faults, rare, settings, fit_width, |t| t + n, n)
 }
 
-/// A call of a crew's digests.
-pub fn crew(random: &mut Random, rare: usize) -> Crew {
+/// A call of the peers' digests.
+pub fn peers(random: &mut Random, rare: usize) -> Peers {
     let faults = Faults::random(random);
     let fit_width = u32::fit_width(random);
     let settings = settings::<u32>(random, faults, fit_width);
@@ -94,7 +94,7 @@ pub fn crew(random: &mut Random, rare: usize) -> Crew {
     let p = peers.min(20) as usize;
     let key_words = |t| p * (t + n);
     let rows = with_rows(random, faults, rare, settings, fit_width, key_words, p * n);
-    Crew {
+    Peers {
         settings,
         peers,
         message: rows.message,

@@ -79,15 +79,15 @@ fn rows_answer(
     0
 }
 
-/// The digests of a crew as a whole call: those of each peer's own part of the keys, end to end.
-pub fn digest_crew(
+/// The digests of p peers as a whole call: those of each peer's own part of the keys, end to end.
+pub fn digest_peers(
     settings: Settings,
     p: u32,
     message: &[u32],
     keys: &[u32],
     out: &[u32],
 ) -> Outcome {
-    let answer = crew_answer(settings, p, message, keys, out.len());
+    let answer = peers_answer(settings, p, message, keys, out.len());
     let mut out = out.to_vec();
     if answer == 0 {
         let mut digests = vec![];
@@ -101,7 +101,7 @@ pub fn digest_crew(
     Outcome { answer, out }
 }
 
-fn crew_answer(settings: Settings, p: u32, message: &[u32], keys: &[u32], places: usize) -> u32 {
+fn peers_answer(settings: Settings, p: u32, message: &[u32], keys: &[u32], places: usize) -> u32 {
     match settings_answer(settings) {
         0 if p == 0 || p > 16 => 10,
         0 => {

@@ -1,4 +1,3 @@
-pub mod Fits
-pub mod Judged
+pub mod Validation
 pub mod Rows
 pub mod States

@@ -15,9 +15,9 @@ unfolding afterwards
 accepted-row answer words old e = rw (eq-eqb answer 0 e)
 
 -- r is the number that the call's tests gave
-module _ {answer r : ℕ} (words old : List ℕ) (judged : r ≡ answer) where
+module _ {answer r : ℕ} (words old : List ℕ) (validated : r ≡ answer) where
   pub refused : (r ≡ 0 → ⊥) → (r ≡ answer) × (old ≡ afterwards answer words old)
-  refused ne = (judged, sym (refused-row answer words old (λ z. ne (judged ∙ z))))
+  refused ne = (validated, sym (refused-row answer words old (λ z. ne (validated ∙ z))))
 
   pub accepted : (row : List ℕ) → r ≡ 0 → row ≡ words ++ drop (length words) old → (0 ≡ answer) × (row ≡ afterwards answer words old)
-  accepted row z wrote = (sym z ∙ judged, wrote ∙ sym (accepted-row answer words old (sym judged ∙ z)))
+  accepted row z wrote = (sym z ∙ validated, wrote ∙ sym (accepted-row answer words old (sym validated ∙ z)))

@@ -1,18 +1,12 @@
--- A state's tests as a function makes them, its rows of eight places, and the state after a call.
-use mathlib.Core.Path.{_≡_, refl, sym, ap, ap₂, _∙_}
+-- A state's tests as a function makes them, and the state after a call.
+use mathlib.Core.Path.{_≡_, sym, _∙_}
 use mathlib.Core.Bool.{Bool, true, false, _&&_, cond}
-use mathlib.Core.List.{List, [], _∷_, _++_}
-use Prim.Native.Nat.{ℕ, _-_, _≤_}
-use native.Mathlib.Nat.{suc-ne-zero}
-use native.Mathlib.Omega.{arith}
-use borrow.Author.Tests.{ltb-true, eq-eqb, ne-eqb}
-use lib.Dec.{ltb, eqb}
-use lib.ListN.{length, take, drop, replicate, length-append, length-drop}
-use lib.Seq.{take-at, drop-at, length-take-le}
-use Rattle.counts.specs.Digest.{fits}
-use Rattle.counts.proofs.Fits.{both, fits-parts, fits-zeros}
+use mathlib.Core.List.{List, [], _∷_}
+use Prim.Native.Nat.{ℕ}
+use borrow.Author.Tests.{eq-eqb, ne-eqb}
+use lib.Dec.{eqb}
 use Rattle.answers.specs.Answers.{Test, test, noneOf}
-use Rattle.answers.specs.Table.{fitRow, padded}
+use Rattle.range.specs.States.{fitRow}
 
 -- a state's tests one by one, as the code makes them: r is what a function answers, x what the tests after it give
 module _ (n : ℕ) (ts : List Test) (rows : Bool) {h r : Bool} where
@@ -35,63 +29,8 @@ module _ (w n : ℕ) (row : List ℕ) (rest : Bool) {r : Bool} where
   pub fit-one-row : {x : Bool} → r ≡ fitRow w n row → r ≡ true → x ≡ rest → x ≡ (fitRow w n row && rest)
   fit-one-row e t p = rw (sym e ∙ t) p
 
--- for the search of a function that judges a state
-pub ruleset state-judged = (unfit, fit-so-far, fit-settings, unfit-row, fit-one-row)
-
--- the words that a row of eight places holds
-pub held-length : (n : ℕ) (row : List ℕ) → n ≤ 8 → length row ≡ 8 → length (take n row) ≡ n
-held-length n row few eight = length-take-le n row (omega arith)
-
--- two rows of zeros of one length
-pub same-zeros : (xs ys : List ℕ) → length xs ≡ length ys → fits 0 xs ≡ true → fits 0 ys ≡ true → xs ≡ ys
-unfolding fits
-same-zeros [] [] e hx hy = refl
-same-zeros [] (y ∷ ys) e hx hy = absurd (suc-ne-zero (length ys) (sym e))
-same-zeros (x ∷ xs) [] e hx hy = absurd (suc-ne-zero (length xs) e)
-same-zeros (x ∷ xs) (y ∷ ys) e hx hy =
-    let p = both (ltb x 1) (fits 0 xs) hx in
-    let q = both (ltb y 1) (fits 0 ys) hy in
-    let same : x ≡ y = omega (arith, ltb-true x 1 (p .0), ltb-true y 1 (q .0)) in
-    ap₂ (λ (z : ℕ) (zs : List ℕ). z ∷ zs) same (same-zeros xs ys (omega arith) (p .1) (q .1))
-
--- the words and the unused places of a row that fits
-pub row-parts : (w n : ℕ) (row : List ℕ) → fitRow w n row ≡ true → (fits w (take n row) ≡ true) × (fits 0 (drop n row) ≡ true)
-unfolding fitRow
-row-parts w n row h = both (fits w (take n row)) (fits 0 (drop n row)) h
-
-pub zeros-row : (w n m : ℕ) → fitRow w n (replicate m 0) ≡ true
-unfolding fitRow
-zeros-row w n m = rw (fits-parts w n (replicate m 0) (fits-zeros w m) .0, fits-parts 0 n (replicate m 0) (fits-zeros 0 m) .1)
-
-module _ (n : ℕ) (words : List ℕ) (len : length words ≡ n) (few : n ≤ 8) where
-  unused : List ℕ
-  unused = drop (length words) (replicate 8 0)
-
-  unused-zero : fits 0 unused ≡ true
-  unfolding unused
-  unused-zero = fits-parts 0 (length words) (replicate 8 0) (fits-zeros 0 8) .1
-
-  unused-places : length unused ≡ 8 - length words
-  unfolding unused
-  unused-places = length-drop (length words) (replicate {A = ℕ} 8 0)
-
-  pub padded-length : length (padded words) ≡ 8
-  unfolding padded unused
-  padded-length = length-append words unused ∙ omega (arith, unused-places)
-
-  pub padded-held : take n (padded words) ≡ words
-  unfolding padded unused
-  padded-held = take-at words unused n len
-
-  pub padded-row : (w : ℕ) → fits w words ≡ true → fitRow w n (padded words) ≡ true
-  unfolding fitRow padded unused
-  padded-row w h = rw (take-at words unused n len, drop-at words unused n len, h) unused-zero
-
-  -- the row that keeps the unused places of a row whose unused places are zero
-  pub padded-over : (row : List ℕ) → length row ≡ 8 → fits 0 (drop n row) ≡ true → words ++ drop n row ≡ padded words
-  unfolding padded unused
-  padded-over row eight zero =
-      ap (λ (l : List ℕ). words ++ l) (same-zeros (drop n row) unused (omega (arith, length-drop n row, unused-places)) zero unused-zero)
+-- for the search of a function that tests a state
+pub ruleset state-validated = (unfit, fit-so-far, fit-settings, unfit-row, fit-one-row)
 
 -- the state after a refusal, and after an accepted call
 module _ {S : Type 0} where
@@ -102,9 +41,9 @@ module _ {S : Type 0} where
   new-state answer new old e = rw (eq-eqb answer 0 e)
 
   -- r is the number that the call's tests gave
-  module _ {answer r : ℕ} (new old : S) (judged : r ≡ answer) where
+  module _ {answer r : ℕ} (new old : S) (validated : r ≡ answer) where
     pub state-refused : (r ≡ 0 → ⊥) → (r ≡ answer) × (old ≡ cond (eqb answer 0) new old)
-    state-refused ne = (judged, sym (old-state answer new old (λ z. ne (judged ∙ z))))
+    state-refused ne = (validated, sym (old-state answer new old (λ z. ne (validated ∙ z))))
 
     pub state-accepted : (state : S) → r ≡ 0 → state ≡ new → (r ≡ answer) × (state ≡ cond (eqb answer 0) new old)
-    state-accepted state z made = (judged, made ∙ sym (new-state answer new old (sym judged ∙ z)))
+    state-accepted state z made = (validated, made ∙ sym (new-state answer new old (sym validated ∙ z)))

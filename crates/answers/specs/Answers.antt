@@ -20,8 +20,8 @@ firstOf [] accepted = accepted
 firstOf (t ∷ ts) accepted = cond (t .holds) (t .number) (firstOf ts accepted)
 
 -- r is what these tests make of a call that others test later: the number of the first that holds, or 0, and the later answer stands
-abbrev pub Judges : List Test → ℕ → Type 0
-Judges ts r = (later : ℕ) → firstOf ts later ≡ cond (eqb r 0) later r
+abbrev pub Validates : List Test → ℕ → Type 0
+Validates ts r = (later : ℕ) → firstOf ts later ≡ cond (eqb r 0) later r
 
 -- no test of the list holds
 unfoldable pub noneOf : List Test → Bool

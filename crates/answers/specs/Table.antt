@@ -1,11 +1,11 @@
 -- The rows of document 01's table "Numbers the agent sees": for each the condition, and the test with its number.
--- A call's answer lists its tests in the order in which the document has them tested. 12 to 21 belong to later calls.
+-- A call's answer lists its tests in the order in which the document has them tested. 9 Digits stands in crate digest_code, whose call alone has digits;
+-- 12 to 21 belong to later calls.
 use mathlib.Core.Bool.{Bool, not, _&&_, _||_}
-use mathlib.Core.List.{List, _++_}
-use Prim.Native.Nat.{ℕ, _^_}
+use mathlib.Core.List.{List}
+use Prim.Native.Nat.{ℕ}
 use lib.Dec.{ltb, eqb}
-use lib.ListN.{length, take, drop, replicate}
-use Rattle.counts.specs.Digest.{fits}
+use Rattle.theory_counts.specs.Words.{fits}
 use Rattle.answers.specs.Answers.{Test, test}
 
 -- 1 Width: w is not 1..32
@@ -80,13 +80,6 @@ wordTest w ms ks = test 7 (badWords w ms ks)
 abbrev pub stateTest : Bool → Test
 stateTest fit = test 8 (not fit)
 
--- 9 Digits (02, "Two"): d is 0, or 10^d is above 2^w
-unfoldable pub badDigits : ℕ → ℕ → Bool
-badDigits w d = eqb d 0 || ltb (2 ^ w) (10 ^ d)
-
-abbrev pub digitsTest : ℕ → ℕ → Test
-digitsTest w d = test 9 (badDigits w d)
-
 -- 10 Peers (02, "Five"): p is not 1..16
 unfoldable pub badPeers : ℕ → Bool
 badPeers p = ltb p 1 || ltb 16 p
@@ -100,11 +93,3 @@ badSeed words = ltb words 1 || ltb 8 words
 
 abbrev pub seedTest : ℕ → Test
 seedTest words = test 11 (badSeed words)
-
--- 8 State, a row of a state: n words below 2^w, and every unused place zero, the only number below 2^0
-unfoldable pub fitRow : ℕ → ℕ → List ℕ → Bool
-fitRow w n row = fits w (take n row) && fits 0 (drop n row)
-
--- 01, "Stream", "Unused places are zero": a row of a state, eight places with the words first
-unfoldable pub padded : List ℕ → List ℕ
-padded words = words ++ drop (length words) (replicate 8 0)

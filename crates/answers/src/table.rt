@@ -1,9 +1,7 @@
 // Whether the condition of a row of the table holds of a call: one function for each row.
 ghost use mathlib.Core.Path.{_≡_};
-ghost use Prim.Native.Nat.{min};
-ghost use Rattle.answers.specs.Table.{badWidth, badByteWidth, badKept, badCount, tooLong, badKey, smallTray, badRows, badWords, badDigits, badPeers, badSeed, fitRow};
-use crate::decimal::power_of_ten;
-use crate::range::row_fits;
+ghost use Rattle.answers.specs.Table.{badWidth, badByteWidth, badKept, badCount, tooLong, badKey, smallTray, badRows, badWords, badPeers, badSeed};
+use range::row_fits;
 
 // 1 Width.
 pub fn bad_width(w: u32) -> bool
@@ -89,23 +87,6 @@ pub fn bad_words(w: u32, message: &[u32], key: &[u32]) -> bool
     true
 }
 
-// 9 Digits. A width above 32, which no word has, counts as 32.
-pub fn bad_digits(w: u32, d: u32) -> bool
-    ensures { λ r. ⌜ r ≡ badDigits (min w 32) d ⌝ }
-{
-    if d == 0 {
-        return true;
-    }
-    // 2^32 lies between 10^9 and 10^10.
-    if 9 < d {
-        return true;
-    }
-    if 32 <= w {
-        return false;
-    }
-    (1u64 << w) < power_of_ten(d)
-}
-
 // 10 Peers.
 pub fn bad_peers(p: u32) -> bool
     ensures { λ r. ⌜ r ≡ badPeers p ⌝ }
@@ -124,17 +105,4 @@ pub fn bad_seed(words: usize) -> bool
         return true;
     }
     8 < words
-}
-
-// 8 State, a row of a state. Only zero is below 2^0.
-pub fn fit_row(w: u32, n: usize, row: &[u32]) -> bool
-    ensures { λ r. ⌜ r ≡ fitRow w n (now (row .entry)) ⌝ }
-{
-    if row.len() <= n {
-        return row_fits(w, row);
-    }
-    if row_fits(w, &row[..n]) {
-        return row_fits(0, &row[n..]);
-    }
-    false
 }

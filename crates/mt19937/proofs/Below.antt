@@ -6,12 +6,11 @@ use mathlib.Core.List.{List, [], _∷_, _++_}
 use native.Mathlib.Nat.{lt-of-le-of-lt, mod-lt}
 use native.Mathlib.Omega.{arith}
 use lib.Bits.{bitAnd, bitXor, xor-lt, or-lt, and-le-l, and-le-r}
-use lib.Dec.{eqb, leb}
-use lib.ListN.{getD, set, replicate}
+use lib.Dec.{eqb}
+use lib.ListN.{getD, set}
 use lib.Pow.{pow-pos, shr-le}
-use Rattle.rows.specs.Written.{table}
-use Rattle.mt19937.specs.Published.{steps, generator, following, newWord, newWords, seeded, joined, twisted, twist, refill, ready, temper, taken, nextAnswer, nextOf}
-use Rattle.mt19937.specs.SeedArray.{put, seedWord, seedStep, indexWord, indexStep, arrayWords, arrayAnswer, noGenerator, arrayed}
+use Rattle.rows.specs.Written.{tabulate}
+use Rattle.mt19937.specs.Published.{steps, generator, following, newWord, newWords, seeded, concatenated, twisted, twist, refill, ready, temper, taken, nextAnswer, nextOf}
 use Rattle.mt19937.specs.declared.Generator.{Generator}
 
 -- every word of a row of the generator's
@@ -26,22 +25,22 @@ append-below [] b ha hb i = hb i
 append-below (x ∷ a) b ha hb zero = ha zero
 append-below (x ∷ a) b ha hb (suc i) = append-below a b (λ j. ha (suc j)) hb i
 
-table-below : (f : ℕ → ℕ) (n : ℕ) → ((i : ℕ) → f i < 2 ^ 32) → Below (table f n)
-unfolding table
-table-below f zero h = none-below
-table-below f (suc n) h = append-below (table f n) (f n ∷ []) (table-below f n h) one
+tabulate-below : (f : ℕ → ℕ) (n : ℕ) → ((i : ℕ) → f i < 2 ^ 32) → Below (tabulate f n)
+unfolding tabulate
+tabulate-below f zero h = none-below
+tabulate-below f (suc n) h = append-below (tabulate f n) (f n ∷ []) (tabulate-below f n h) one
   where
     one : Below (f n ∷ [])
     one zero = h n
     one (suc i) = pow-pos 32
 
 -- a table by its first word
-table-first : (f : ℕ → ℕ) (n : ℕ) → table f (suc n) ≡ f zero ∷ table (λ (i : ℕ). f (suc i)) n
-unfolding table
-table-first f zero = refl
-table-first f (suc n) = ap (λ (ws : List ℕ). ws ++ (f (suc n) ∷ [])) (table-first f n)
+tabulate-first : (f : ℕ → ℕ) (n : ℕ) → tabulate f (suc n) ≡ f zero ∷ tabulate (λ (i : ℕ). f (suc i)) n
+unfolding tabulate
+tabulate-first f zero = refl
+tabulate-first f (suc n) = ap (λ (ws : List ℕ). ws ++ (f (suc n) ∷ [])) (tabulate-first f n)
 
-set-below : (ws : List ℕ) (i v : ℕ) → Below ws → v < 2 ^ 32 → Below (set ws i v)
+pub set-below : (ws : List ℕ) (i v : ℕ) → Below ws → v < 2 ^ 32 → Below (set ws i v)
 set-below [] i v h hv j = none-below j
 set-below (x ∷ ws) zero v h hv zero = hv
 set-below (x ∷ ws) zero v h hv (suc j) = h (suc j)
@@ -63,23 +62,23 @@ twisted-below far y hf hy = xor-lt 32 _ _ (xor-lt 32 far (y / 2 ^ 1) hf (shift-b
     go false = pow-pos 32
 
 -- whatever the two words are, since the masks are below
-joined-below : (this next : ℕ) → joined this next < 2 ^ 32
-unfolding joined
-joined-below this next =
+concatenated-below : (this next : ℕ) → concatenated this next < 2 ^ 32
+unfolding concatenated
+concatenated-below this next =
     or-lt 32 _ _ (lt-of-le-of-lt (and-le-r this 0x8000_0000) (omega arith)) (lt-of-le-of-lt (and-le-r next 0x7FFF_FFFF) (omega arith))
 
 twist-below : (i : ℕ) (ws : List ℕ) → Below ws → Below (twist i ws)
 unfolding twist
-twist-below i ws h = set-below ws i _ h (twisted-below _ _ (h _) (joined-below _ _))
+twist-below i ws h = set-below ws i _ h (twisted-below _ _ (h _) (concatenated-below _ _))
 
 -- the first step reads one bit of word 0 and replaces it, so nothing is asked of that word
 first-twist-below : (x : ℕ) (ws : List ℕ) → Below ws → Below (twist 0 (x ∷ ws))
 unfolding twist
-first-twist-below x ws h zero = twisted-below _ _ (h 396) (joined-below _ _)
+first-twist-below x ws h zero = twisted-below _ _ (h 396) (concatenated-below _ _)
 first-twist-below x ws h (suc i) = h i
 
 -- steps of which each leaves the words below
-steps-below : (f : ℕ → List ℕ → List ℕ) → ((k : ℕ) (ws : List ℕ) → Below ws → Below (f k ws)) → (n : ℕ) (ws : List ℕ) → Below ws → Below (steps f n ws)
+pub steps-below : (f : ℕ → List ℕ → List ℕ) → ((k : ℕ) (ws : List ℕ) → Below ws → Below (f k ws)) → (n : ℕ) (ws : List ℕ) → Below ws → Below (steps f n ws)
 unfolding steps
 steps-below f one zero ws h = h
 steps-below f one (suc n) ws h = one n (steps f n ws) (steps-below f one n ws h)
@@ -97,7 +96,7 @@ refill-below x ws h = twists-below x ws h 623
 abbrev pub ReadyBelow : Generator → Type 0
 ReadyBelow g = Below (ready g .words)
 
-words-ready : (g : Generator) → Below (g .words) → ReadyBelow g
+pub words-ready : (g : Generator) → Below (g .words) → ReadyBelow g
 unfolding ready refill
 words-ready g h = go (eqb (g .at) 624)
   where
@@ -117,67 +116,27 @@ temper-below y h = right 18 _ (left 15 0xEFC6_0000 _ (left 7 0x9D2C_5680 _ (righ
 
 -- a state filled from a seed: the seed, and the words that follow
 unfoldable laterWords : ℕ → List ℕ
-laterWords seed = table (λ (i : ℕ). newWord seed (suc i)) 623
+laterWords seed = tabulate (λ (i : ℕ). newWord seed (suc i)) 623
 
 filled : (seed : ℕ) → newWords seed 624 ≡ seed ∷ laterWords seed
 unfolding newWords newWord laterWords
-filled seed = table-first (newWord seed) 623
+filled seed = tabulate-first (newWord seed) 623
 
 later-below : (seed : ℕ) → Below (laterWords seed)
 unfolding laterWords newWord following
-later-below seed = table-below _ 623 (λ i. mod-lt _ (pow-pos 32))
+later-below seed = tabulate-below _ 623 (λ i. mod-lt _ (pow-pos 32))
 
--- a generator new from a seed of any size, or from an array of seed words of any size
+-- a generator new from a seed of any size
 pub seeded-below : (seed : ℕ) → ReadyBelow (seeded seed)
 unfolding seeded ready
 seeded-below seed = subst (λ (ws : List ℕ). Below (refill ws)) (sym (filled seed)) (refill-below seed (laterWords seed) (later-below seed))
 
-filled-below : (seed : ℕ) → seed < 2 ^ 32 → Below (newWords seed 624)
+pub filled-below : (seed : ℕ) → seed < 2 ^ 32 → Below (newWords seed 624)
 filled-below seed h = subst Below (sym (filled seed)) whole
   where
     whole : Below (seed ∷ laterWords seed)
     whole zero = h
     whole (suc i) = later-below seed i
-
-put-below : (i word : ℕ) (ws : List ℕ) → Below ws → word < 2 ^ 32 → Below (put i word ws)
-unfolding put
-put-below i word ws h b = go (leb 624 (i + 1))
-  where
-    one : Below (set ws i word)
-    one = set-below ws i word h b
-
-    go : (wraps : Bool) → Below (cond wraps (set (set ws i word) 0 (getD (set ws i word) 623 0)) (set ws i word))
-    go true = set-below (set ws i word) 0 _ one (one 623)
-    go false = one
-
-seed-step-below : (seed : List ℕ) (k : ℕ) (ws : List ℕ) → Below ws → Below (seedStep seed k ws)
-unfolding seedStep seedWord
-seed-step-below seed k ws h = put-below _ _ ws h (mod-lt _ (pow-pos 32))
-
-index-step-below : (k : ℕ) (ws : List ℕ) → Below ws → Below (indexStep k ws)
-unfolding indexStep indexWord
-index-step-below k ws h = put-below _ _ ws h (mod-lt _ (pow-pos 32))
-
-array-below : (seed : List ℕ) → Below (arrayWords seed)
-unfolding arrayWords
-array-below seed =
-    let filled = newWords 19650218 624 in
-    let first = steps (seedStep seed) 624 filled in
-    let b = steps-below (seedStep seed) (seed-step-below seed) 624 filled (filled-below 19650218 (omega arith)) in
-    set-below (steps indexStep 623 first) 0 0x8000_0000 (steps-below indexStep index-step-below 623 first b) (omega arith)
-
-zeros-below : (n : ℕ) → Below (replicate n 0)
-zeros-below zero i = pow-pos 32
-zeros-below (suc n) zero = pow-pos 32
-zeros-below (suc n) (suc i) = zeros-below n i
-
-pub arrayed-below : (seed : List ℕ) → ReadyBelow (arrayed seed)
-unfolding arrayed noGenerator
-arrayed-below seed = words-ready (arrayed seed) (go (eqb (arrayAnswer seed) 0))
-  where
-    go : (accepted : Bool) → Below (cond accepted (generator (arrayWords seed) 624) noGenerator .words)
-    go true = array-below seed
-    go false = zeros-below 624
 
 -- an output, and the state after it
 pub next-below : (g : Generator) → ReadyBelow g → (nextOf g .word < 2 ^ 32) × ReadyBelow (nextOf g .state)

@@ -1,5 +1,3 @@
--- Laws that several proofs cite, and the theorem about one word.
+-- Laws that several proofs cite.
 pub mod Laws
 pub mod Below
-pub mod SeedArray
-pub mod OneWord

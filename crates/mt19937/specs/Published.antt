@@ -6,7 +6,7 @@ use mathlib.Core.List.{List, [], _∷_}
 use lib.Bits.{bitAnd, bitOr, bitXor}
 use lib.Dec.{eqb, leb}
 use lib.ListN.{getD, set}
-use Rattle.rows.specs.Written.{table}
+use Rattle.rows.specs.Written.{tabulate}
 use Rattle.answers.specs.Answers.{firstOf}
 use Rattle.answers.specs.Table.{stateTest}
 use Rattle.mt19937.specs.declared.Generator.{Generator}
@@ -32,15 +32,15 @@ newWord seed (suc i) = following (suc i) (newWord seed i)
 
 -- 01, The generator, New: the first k state words that a seed makes
 unfoldable pub newWords : ℕ → ℕ → List ℕ
-newWords seed k = table (newWord seed) k
+newWords seed k = tabulate (newWord seed) k
 
 -- 01, The generator, New: the position is 624
 unfoldable pub seeded : ℕ → Generator
 seeded seed = generator (newWords seed 624) 624
 
 -- 01, The generator, Refill: y is the top bit of word i with the low 31 bits of word i + 1
-unfoldable pub joined : ℕ → ℕ → ℕ
-joined this next = bitOr (bitAnd this 0x8000_0000) (bitAnd next 0x7FFF_FFFF)
+unfoldable pub concatenated : ℕ → ℕ → ℕ
+concatenated this next = bitOr (bitAnd this 0x8000_0000) (bitAnd next 0x7FFF_FFFF)
 
 -- 01, The generator, Refill: word i + 397, xor y shifted right 1, xor 0x9908B0DF if y is odd
 unfoldable pub twisted : ℕ → ℕ → ℕ
@@ -48,7 +48,7 @@ twisted far y = bitXor (bitXor far (y / 2 ^ 1)) (cond (eqb (y % 2) 1) 0x9908_B0D
 
 -- 01, The generator, Refill: step i, in place, with indices modulo 624
 unfoldable pub twist : ℕ → List ℕ → List ℕ
-twist i ws = set ws i (twisted (getD ws ((i + 397) % 624) 0) (joined (getD ws i 0) (getD ws ((i + 1) % 624) 0)))
+twist i ws = set ws i (twisted (getD ws ((i + 397) % 624) 0) (concatenated (getD ws i 0) (getD ws ((i + 1) % 624) 0)))
 
 -- 01, The generator, Refill: for i = 0..623 in order
 unfoldable pub refill : List ℕ → List ℕ

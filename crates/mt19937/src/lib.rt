@@ -1,11 +1,8 @@
-// MT19937 of Matsumoto and Nishimura, in its 2002 initialisations by a seed and by an array of seed words.
+// MT19937 of Matsumoto and Nishimura, in its 2002 initialisation by a seed.
 ghost use mathlib.Core.Path.{_≡_};
 ghost use mathlib.Core.List.{List};
-ghost use Prim.Native.Nat.{ℕ, _+_, _-_, _%_, _≤_, _<_};
-ghost use Rattle.mt19937.specs.Published.{steps, generator, following, newWords, seeded, joined, twisted, twist, refill, ready, temper, taken, nextOf};
-ghost use Rattle.mt19937.specs.SeedArray.{made};
-
-mod array;
+ghost use Prim.Native.Nat.{ℕ, _+_, _-_, _*_, _%_, _^_, _≤_, _<_};
+ghost use Rattle.mt19937.specs.Published.{steps, generator, following, newWords, seeded, concatenated, twisted, twist, refill, ready, temper, taken, nextOf};
 
 // The words of the state, and how many of them are used up. Any state with at most 624 used up is fit.
 pub struct Generator {
@@ -17,12 +14,6 @@ pub struct Generator {
 pub struct Next {
     pub answer: u32,
     pub word: u32,
-    pub state: Generator,
-}
-
-// A generator with the answer of its making. A refusal has the all-zero generator.
-pub struct Made {
-    pub answer: u32,
     pub state: Generator,
 }
 
@@ -55,15 +46,6 @@ impl Generator {
 
     pub const OUTPUT_BITS: u32 = 32;
 
-    // Of a seed array: the seed of the filling before it, the multipliers of its two loops, and word 0 at last.
-    pub const ARRAY_FILL: u32 = 19650218;
-
-    pub const FIRST_FACTOR: u32 = 1664525;
-
-    pub const SECOND_FACTOR: u32 = 1566083941;
-
-    pub const ARRAY_FIRST: u32 = 0x8000_0000;
-
     // The first state word whose far word lies before it; the last state word, and its far word.
     const TURN: usize = Self::SIZE - Self::FAR;
 
@@ -78,30 +60,6 @@ impl Generator {
         Generator {
             words,
             at: Self::SIZE,
-        }
-    }
-
-    // From an array of 1 to 8 seed words. One word makes another generator than the same word as a seed.
-    pub fn from_array(seed: &[u32]) -> Made
-        ensures { λ r. ⌜ r ≡ made (now (seed .entry)) ⌝ }
-    {
-        if answers::table::bad_seed(seed.len()) {
-            let state = Generator {
-                words: [0u32; 624],
-                at: 0,
-            };
-            return Made {
-                answer: answers::SEED,
-                state,
-            };
-        }
-        let words = array::fill_by_array(seed);
-        Made {
-            answer: 0,
-            state: Generator {
-                words,
-                at: Self::SIZE,
-            },
         }
     }
 
@@ -122,12 +80,19 @@ impl Generator {
     }
 }
 
+// The product modulo 2^32. The wrap is meant.
+pub fn wrapping_mul(a: u32, b: u32) -> u32
+    ensures { λ r. ⌜ r ≡ (a * b) % 2 ^ 32 ⌝ }
+{
+    ((a as u64) * (b as u64) % 0x1_0000_0000) as u32
+}
+
 // The word that follows p in a new state.
 fn follow(i: u32, p: u32) -> u32
     ensures { λ r. ⌜ r ≡ following i p ⌝ }
 {
     let x = p ^ (p >> Generator::FILL_SHIFT);
-    std::num::wrapping_add_u32(sums::wrapping_mul(Generator::FILL_FACTOR, x), i)
+    std::num::wrapping_add_u32(wrapping_mul(Generator::FILL_FACTOR, x), i)
 }
 
 // The state words that a seed makes.
@@ -144,7 +109,7 @@ fn fill(seed: u32) -> [u32; 624]
 }
 
 fn join(this: u32, next: u32) -> u32
-    ensures { λ r. ⌜ r ≡ joined this next ⌝ }
+    ensures { λ r. ⌜ r ≡ concatenated this next ⌝ }
 {
     (this & Generator::TOP_BIT) | (next & Generator::LOW_BITS)
 }

@@ -10,9 +10,9 @@ use lib.Seq.{take-at, drop-at, take-all, drop-drop, drop-append-le, drop-append-
 use Rattle.rows.specs.Written.{over}
 use Rattle.rows.proofs.Written.{over-fits}
 use Rattle.rows.proofs.Parts.{part-to-end}
-use Rattle.sums.specs.Sums.{addSums, summable, leafSums}
-use Rattle.sums.proofs.Summable.{Sums, sums-are}
-use Rattle.sums.proofs.Each.{sums-more, leaf-still, leaf-sums, leaf-append}
+use Rattle.sum_terms.specs.Sums.{addSums, summable, checkedSums}
+use Rattle.sum_terms.proofs.Summable.{Sums, sums-are}
+use Rattle.sum_terms.proofs.Each.{sums-more, checked-still, checked-sums, checked-append}
 use Rattle.stream.specs.State.{lastWords}
 
 -- a row whose first n places and then the next ones are written
@@ -87,43 +87,43 @@ module _ (w n first : ℕ) (held ms ks : List ℕ) (len : length held ≡ n) (sa
   joined-length = length-append held (take first ks) ∙ omega (arith, length-take-le first ks (omega arith))
 
   -- the first words reach no further than the joined ones
-  joined-reads : (more : List ℕ) → leafSums w n (take first ms) (joined ++ more) sums ≡ addSums w (take first ms) joined (take n sums) ++ drop n sums
+  joined-reads : (more : List ℕ) → checkedSums w n (take first ms) (joined ++ more) sums ≡ addSums w (take first ms) joined (take n sums) ++ drop n sums
   joined-reads more =
-      leaf-sums w n (take first ms) (joined ++ more) sums
+      checked-sums w n (take first ms) (joined ++ more) sums
       (record { some-width = s .some-width; width = s .width; some-words = s .some-words; words = s .words; keys = omega (arith, taken, joined-length, length-append joined more) })
       ∙ ap (λ (l : List ℕ). l ++ drop n sums) (sums-more w (take first ms) joined more (take n sums) (omega (arith, taken, joined-length, length-take n sums)))
 
-  begun : (joint after : List ℕ) → joint ≡ (held ++ take first ks) ++ after → leafSums w n (take first ms) joint sums ≡ leafSums w n (take first ms) (held ++ ks) sums
+  begun : (joint after : List ℕ) → joint ≡ (held ++ take first ks) ++ after → checkedSums w n (take first ms) joint sums ≡ checkedSums w n (take first ms) (held ++ ks) sums
   unfolding joined
   begun joint after e =
-      let over-key : List ℕ → List ℕ = λ (l : List ℕ). leafSums w n (take first ms) l sums in
+      let over-key : List ℕ → List ℕ = λ (l : List ℕ). checkedSums w n (take first ms) l sums in
       ap over-key e
       ∙ joined-reads after
       ∙ sym (joined-reads (drop first ks))
       ∙ ap over-key (append-assoc held (take first ks) (drop first ks) ∙ ap (λ (l : List ℕ). held ++ l) (take-append-drop first ks))
 
   -- the key after the first words is the pushed one, or there are no later words and the pushed key is too short to sum over
-  then-pushed : leafSums w n (drop first ms) ks (leafSums w n (take first ms) (held ++ ks) sums) ≡ leafSums w n ms (held ++ ks) sums
+  then-pushed : checkedSums w n (drop first ms) ks (checkedSums w n (take first ms) (held ++ ks) sums) ≡ checkedSums w n ms (held ++ ks) sums
   then-pushed = go (decLe n (length ks))
     where
-      go : Dec (n ≤ length ks) → leafSums w n (drop first ms) ks (leafSums w n (take first ms) (held ++ ks) sums) ≡ leafSums w n ms (held ++ ks) sums
+      go : Dec (n ≤ length ks) → checkedSums w n (drop first ms) ks (checkedSums w n (take first ms) (held ++ ks) sums) ≡ checkedSums w n ms (held ++ ks) sums
       go (yes many) =
           let all : length (take first ms) ≡ n = omega (arith, taken) in
           let after : drop (length (take first ms)) (held ++ ks) ≡ ks = ap (λ (m : ℕ). drop m (held ++ ks)) all ∙ drop-at held ks n len in
-          ap (λ (l : List ℕ). leafSums w n (drop first ms) l (leafSums w n (take first ms) (held ++ ks) sums)) (sym after)
-          ∙ leaf-append w n (take first ms) (drop first ms) (held ++ ks) sums (rw (take-append-drop first ms) s)
-          ∙ ap (λ (l : List ℕ). leafSums w n l (held ++ ks) sums) (take-append-drop first ms)
+          ap (λ (l : List ℕ). checkedSums w n (drop first ms) l (checkedSums w n (take first ms) (held ++ ks) sums)) (sym after)
+          ∙ checked-append w n (take first ms) (drop first ms) (held ++ ks) sums (rw (take-append-drop first ms) s)
+          ∙ ap (λ (l : List ℕ). checkedSums w n l (held ++ ks) sums) (take-append-drop first ms)
       go (no few) =
-          sym (leaf-still w n (drop first ms) ks (leafSums w n (take first ms) (held ++ ks) sums) (cannot-sum w n (length (drop first ms)) (length ks) (omega arith)))
-          ∙ ap (λ (l : List ℕ). leafSums w n l (held ++ ks) sums) (take-all first ms (omega arith))
+          sym (checked-still w n (drop first ms) ks (checkedSums w n (take first ms) (held ++ ks) sums) (cannot-sum w n (length (drop first ms)) (length ks) (omega arith)))
+          ∙ ap (λ (l : List ℕ). checkedSums w n l (held ++ ks) sums) (take-all first ms (omega arith))
 
   -- in the parts that the code lends: what it makes of the sums over the joint row, and then of those over the pushed key
   pub joint-sums : (joint after one two : List ℕ)
       → joint ≡ (held ++ take first ks) ++ after
-      → one ≡ leafSums w n (take first ms) joint sums
-      → two ≡ leafSums w n (take (length ms - first) (drop first ms)) ks one
-      → two ≡ leafSums w n ms (held ++ ks) sums
+      → one ≡ checkedSums w n (take first ms) joint sums
+      → two ≡ checkedSums w n (take (length ms - first) (drop first ms)) ks one
+      → two ≡ checkedSums w n ms (held ++ ks) sums
   joint-sums joint after one two e e₁ e₂ =
       e₂
-      ∙ ap₂ (λ (rest new : List ℕ). leafSums w n rest ks new) (part-to-end (length ms) first ms refl) (e₁ ∙ begun joint after e)
+      ∙ ap₂ (λ (rest new : List ℕ). checkedSums w n rest ks new) (part-to-end (length ms) first ms refl) (e₁ ∙ begun joint after e)
       ∙ then-pushed

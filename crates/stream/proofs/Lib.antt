@@ -1,5 +1,4 @@
-pub mod Judged
+pub mod Valid
 pub mod Joined
 pub mod Made
 pub mod Pushes
-pub mod Cutting

@@ -3,13 +3,13 @@ use mathlib.Core.Path.{_≡_, sym, ap, ap₂, _∙_}
 use mathlib.Core.List.{List, _++_}
 use Prim.Native.Nat.{ℕ, _+_}
 use lib.ListN.{length, replicate}
-use Rattle.answers.specs.Table.{padded}
-use Rattle.answers.proofs.States.{held-length, row-parts, padded-over}
-use Rattle.sums.specs.Sums.{addSums, leafSums}
-use Rattle.sums.proofs.Each.{length-sums, leaf-sums}
+use Rattle.range.specs.States.{padded}
+use Rattle.range.proofs.States.{held-length, row-parts, padded-over}
+use Rattle.sum_terms.specs.Sums.{addSums, checkedSums}
+use Rattle.sum_terms.proofs.Each.{length-sums, checked-sums}
 use Rattle.stream.specs.declared.Stream.{Stream}
 use Rattle.stream.specs.State.{heldKeys, heldSums, lastWords, pushed, opened}
-use Rattle.stream.proofs.Judged.{Takes}
+use Rattle.stream.proofs.Valid.{Takes}
 use Rattle.stream.proofs.Joined.{held-sums}
 
 pub opened-from : (w b n : ℕ) (ks keys : List ℕ) → keys ≡ padded ks
@@ -22,7 +22,7 @@ pub pushed-from : (s : Stream) (ms ks keys sums : List ℕ)
     → length (s .keys) ≡ 8
     → length (s .sums) ≡ 8
     → keys ≡ padded (lastWords (s .n) (heldKeys s ++ ks))
-    → sums ≡ leafSums (s .width) (s .n) ms (heldKeys s ++ ks) (s .sums)
+    → sums ≡ checkedSums (s .width) (s .n) ms (heldKeys s ++ ks) (s .sums)
     → _≡_ {A = Stream} (record { width = s .width; kept = s .kept; n = s .n; taken = s .taken + length ms; keys = keys; sums = sums }) (pushed s ms ks)
 unfolding pushed
 pushed-from s ms ks keys sums t keys-eight sums-eight ek es =
@@ -33,5 +33,5 @@ pushed-from s ms ks keys sums t keys-eight sums-eight ek es =
     ap₂ {C = Stream} (λ (x y : List ℕ). record { width = s .width; kept = s .kept; n = s .n; taken = s .taken + length ms; keys = x; sums = y })
     ek
     (es
-    ∙ leaf-sums (s .width) (s .n) ms (heldKeys s ++ ks) (s .sums) (held-sums _ _ (heldKeys s) ms ks (r .some-width) (r .width) (r .some-words) (r .words) held (sym (t .words)))
+    ∙ checked-sums (s .width) (s .n) ms (heldKeys s ++ ks) (s .sums) (held-sums _ _ (heldKeys s) ms ks (r .some-width) (r .width) (r .some-words) (r .words) held (sym (t .words)))
     ∙ padded-over (s .n) added count (r .words) (s .sums) sums-eight (row-parts (s .width) (s .n) (s .sums) (t .state .sums) .1))

@@ -7,16 +7,16 @@ use native.Mathlib.Nat.{add-zero}
 use native.Mathlib.Omega.{arith}
 use lib.ListN.{length, drop, length-append, length-drop, take-append-drop}
 use lib.Seq.{drop-drop, drop-append-le}
-use Rattle.counts.specs.Digest.{fits}
-use Rattle.counts.proofs.Fits.{fits-append, fits-parts}
-use Rattle.sums.specs.Sums.{addSums}
-use Rattle.sums.proofs.Each.{length-sums, sums-more, sums-append, sums-fit, sums-none}
+use Rattle.theory_counts.specs.Words.{fits}
+use Rattle.theory_counts.proofs.Fits.{fits-append, fits-parts}
+use Rattle.sum_terms.specs.Sums.{addSums}
+use Rattle.sum_terms.proofs.Each.{length-sums, sums-more, sums-append, sums-fit, sums-none}
 use Rattle.stream.specs.declared.Stream.{Stream}
-use Rattle.answers.specs.Table.{padded}
+use Rattle.range.specs.States.{padded}
 use Rattle.stream.specs.State.{heldKeys, heldSums, lastWords, pushed}
-use Rattle.stream.proofs.Judged.{Fit, Takes}
+use Rattle.stream.proofs.Valid.{Fit, Takes}
 use Rattle.stream.proofs.Joined.{last-after, length-last}
-use Rattle.answers.proofs.States.{held-length, row-parts, padded-length, padded-held, padded-row, padded-over}
+use Rattle.range.proofs.States.{held-length, row-parts, padded-length, padded-held, padded-row, padded-over}
 
 -- a fit state with its rows of eight places
 pub record Good (s : Stream) : Type 0 where

@@ -4,7 +4,7 @@ use mathlib.Core.List.{List, [], _∷_, map}
 use Prim.Native.Nat.{ℕ, _+_}
 use lib.Dec.{eqb}
 use lib.ListN.{length}
-use Rattle.counts.specs.Digest.{kept}
+use Rattle.theory_digest.specs.Digest.{kept}
 use Rattle.answers.specs.Answers.{firstOf, afterwards}
 use Rattle.answers.specs.Table.{widthTest, keptTest, countTest, longTest, keyTest, trayTest, wordTest, stateTest}
 use Rattle.stream.specs.declared.Stream.{Stream}

@@ -4,8 +4,9 @@ use mathlib.Core.List.{List, [], _∷_, _++_}
 use Prim.Native.Nat.{ℕ, _+_, _-_}
 use lib.ListN.{length, take, drop, replicate}
 use Rattle.answers.specs.Answers.{noneOf}
-use Rattle.answers.specs.Table.{widthTest, keptTest, countTest, longTest, fitRow, padded}
-use Rattle.sums.specs.Sums.{addSums}
+use Rattle.answers.specs.Table.{widthTest, keptTest, countTest, longTest}
+use Rattle.range.specs.States.{fitRow, padded}
+use Rattle.sum_terms.specs.Sums.{addSums}
 use Rattle.stream.specs.declared.Stream.{Stream}
 
 -- 01, "Stream": the last n key words and the n full-width sums that a state holds

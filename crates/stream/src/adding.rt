@@ -3,7 +3,7 @@ ghost use mathlib.Core.Path.{_≡_};
 ghost use mathlib.Core.List.{_++_};
 ghost use Prim.Native.Nat.{_≤_};
 ghost use lib.ListN.{length, take};
-ghost use Rattle.sums.specs.Sums.{leafSums};
+ghost use Rattle.sum_terms.specs.Sums.{checkedSums};
 ghost use Rattle.stream.specs.State.{pushed};
 ghost use Rattle.stream.specs.Calls.{pushAnswer};
 use crate::Stream;
@@ -33,7 +33,7 @@ pub(crate) fn push_fit(s: Stream, message: &[u32], key: &[u32]) -> Stream
 
 // The n sums with what the message adds under the held and then the pushed key words. Only its first words reach into
 // the held ones: they are summed over both rows, joined, and all later words straight from the pushed row. The push's
-// judge has tested the words.
+// validate has tested the words.
 fn push_sums(
     w: u32,
     n: u32,
@@ -43,13 +43,13 @@ fn push_sums(
     key: &[u32],
 ) -> [u32; 8]
     requires { ⌜ (1 ≤ w) × (w ≤ 32) × (1 ≤ n) × (n ≤ 8) × (length (now message) ≡ length (now key)) ⌝ }
-    ensures { λ r. ⌜ r ≡ leafSums w n (now (message .entry)) (take n held ++ now (key .entry)) sums ⌝ }
+    ensures { λ r. ⌜ r ≡ checkedSums w n (now (message .entry)) (take n held ++ now (key .entry)) sums ⌝ }
 {
     let words = n as usize;
     let first = rows::lesser(words, key.len());
     let joint = keys::join(words, held, &key[..first]);
     let mut added = sums;
-    word_sums::add_sums(w, n, false, &message[..first], &joint, &mut added);
-    word_sums::add_sums(w, n, false, &message[first..], key, &mut added);
+    sum_words::add_sums(w, n, false, &message[..first], &joint, &mut added);
+    sum_words::add_sums(w, n, false, &message[first..], key, &mut added);
     added
 }

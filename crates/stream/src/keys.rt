@@ -3,7 +3,7 @@ ghost use mathlib.Core.Path.{_≡_};
 ghost use mathlib.Core.List.{_++_};
 ghost use Prim.Native.Nat.{_+_, _≤_};
 ghost use lib.ListN.{length, take, drop, replicate};
-ghost use Rattle.answers.specs.Table.{padded};
+ghost use Rattle.range.specs.States.{padded};
 ghost use Rattle.stream.specs.State.{lastWords};
 
 // A row of eight places: the words, and zeros after them.

@@ -3,8 +3,8 @@ ghost use mathlib.Core.Path.{_≡_};
 ghost use Rattle.stream.specs.Calls.{openAnswer, openState, pushAnswer, pushState, readAnswer, readRow};
 
 mod adding;
-mod judging;
 mod keys;
+mod validation;
 
 // The settings, the count of words pushed, the last n key words and n full-width sums. Unused places are zero.
 pub struct Stream {
@@ -34,7 +34,7 @@ impl Stream {
             × (r .state ≡ openState w b n (now (key .entry)))
             ⌝ }
     {
-        let answer = judging::opening(w, b, n, key);
+        let answer = validation::opening(w, b, n, key);
         let zeros = [0u32; 8];
         if answer != 0 {
             let state = Stream {
@@ -66,7 +66,7 @@ impl Stream {
             × (r .state ≡ pushState self (now (message .entry)) (now (key .entry)))
             ⌝ }
     {
-        let answer = judging::pushing(self, message, key);
+        let answer = validation::pushing(self, message, key);
         if answer != 0 {
             return Pushed {
                 answer,
@@ -84,12 +84,12 @@ impl Stream {
             × (now (out .exit) ≡ readRow self (now (out .entry)))
             ⌝ }
     {
-        let answer = judging::reading(self, out);
+        let answer = validation::reading(self, out);
         if answer != 0 {
             return answer;
         }
         let sums = self.sums;
-        sums::write_kept(self.kept, self.n as usize, sums, out);
+        sum_terms::write_kept(self.kept, self.n as usize, sums, out);
         0
     }
 }

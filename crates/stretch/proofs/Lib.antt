@@ -1,4 +1,3 @@
 -- Laws that several proofs cite, and the theorems.
 pub mod Rows
 pub mod Loads
-pub mod Fits

@@ -8,14 +8,14 @@ use lib.Dec.{eqb}
 use lib.ListN.{length}
 use Rattle.answers.specs.Answers.{firstOf}
 use Rattle.answers.specs.Table.{badWidth, badSeed, tooLong, seedTest, longTest, longStretchTest}
-use Rattle.answers.proofs.Judged.{passed, width-passed}
+use Rattle.answers.proofs.Validation.{passed, width-passed}
 use Rattle.answers.proofs.Rows.{accepted-row, refused}
 use Rattle.mt19937.specs.Published.{generator, seeded}
-use Rattle.mt19937.specs.SeedArray.{arrayWords, arrayAnswer, noGenerator, arrayed, made}
+use Rattle.mt19937_array.specs.SeedArray.{arrayWords, arrayAnswer, noGenerator, arrayed, made}
 use Rattle.mt19937.specs.declared.Generator.{Generator}
-use Rattle.mt19937.specs.declared.Made.{Made}
-use Rattle.stretch.specs.Stretch.{after, keyRow, stretchAnswer, stretched, stretchArrayAnswer, stretchedArray}
-use Rattle.stretch.specs.Load.{loadAnswer, loadArrayAnswer, keyAfter, messageAfter, loadKey, loadMessage, loadArrayKey, loadArrayMessage, LoadGoesOn, LoadArrayGoesOn}
+use Rattle.mt19937_array.specs.declared.Made.{Made}
+use Rattle.stretch.specs.Stretch.{after, keyRow, stretchAnswer, stretchArrayAnswer}
+use Rattle.stretch.specs.Load.{loadAnswer, loadArrayAnswer, keyAfter, messageAfter}
 use Rattle.stretch.proofs.Rows.{row-more, row-whole}
 
 -- a plain seed is tested as one word, and a stretch as a load without a message
@@ -38,9 +38,9 @@ module _ (w seedWords keyWords messageWords : ℕ) (e : loadArrayAnswer w seedWo
   unfolding loadArrayAnswer
   tests =
       let rest = longTest messageWords ∷ [] in
-      let width = passed 0 (badWidth w) (seedTest seedWords ∷ longStretchTest keyWords ∷ rest) e in
-      let seed = passed 10 (badSeed seedWords) (longStretchTest keyWords ∷ rest) (width .1) in
-      (width .0, seed .0, passed 3 (tooLong 65544 keyWords) rest (seed .1) .0)
+      let width = passed 0 (badWidth w) (seedTest seedWords ∷ longStretchTest keyWords ∷ rest) 0 e in
+      let seed = passed 10 (badSeed seedWords) (longStretchTest keyWords ∷ rest) 0 (width .1) in
+      (width .0, seed .0, passed 3 (tooLong 65544 keyWords) rest 0 (seed .1) .0)
 
   pub load-width : (1 ≤ w) × (w ≤ 32)
   load-width = width-passed w (tests .0)
@@ -61,21 +61,21 @@ module _ (w : ℕ) (g : Generator) (key message : List ℕ) where
   message-after answer e = accepted-row answer _ message e ∙ sym (row-whole w (after (length key) g) message)
 
   -- laid end to end
-  rows-after : (answer : ℕ) → answer ≡ 0 → keyAfter answer w g key ++ messageAfter answer w g key message ≡ keyRow w g (length key + length message)
+  pub rows-after : (answer : ℕ) → answer ≡ 0 → keyAfter answer w g key ++ messageAfter answer w g key message ≡ keyRow w g (length key + length message)
   rows-after answer e = rw (key-after answer e, message-after answer e) (sym (row-more w (length key) (length message) g))
 
   -- r is the number that the call's tests gave
-  module _ {answer r : ℕ} (judged : r ≡ answer) where
+  module _ {answer r : ℕ} (validated : r ≡ answer) where
     pub load-refused : (r ≡ 0 → ⊥) → (r ≡ answer) × (key ≡ keyAfter answer w g key) × (message ≡ messageAfter answer w g key message)
     unfolding keyAfter messageAfter
-    load-refused ne = (judged, refused _ key judged ne .1, refused _ message judged ne .1)
+    load-refused ne = (validated, refused _ key validated ne .1, refused _ message validated ne .1)
 
     pub load-accepted : {keyRow′ messageRow′ : List ℕ} → r ≡ 0
         → (keyRow′ ≡ keyRow w g (length key)) × (messageRow′ ≡ keyRow w (after (length key) g) (length message))
         → (0 ≡ answer) × (keyRow′ ≡ keyAfter answer w g key) × (messageRow′ ≡ messageAfter answer w g key message)
     load-accepted z wrote =
-        let zero′ = sym judged ∙ z in
-        (sym z ∙ judged, wrote .0 ∙ sym (key-after answer zero′), wrote .1 ∙ sym (message-after answer zero′))
+        let zero′ = sym validated ∙ z in
+        (sym z ∙ validated, wrote .0 ∙ sym (key-after answer zero′), wrote .1 ∙ sym (message-after answer zero′))
 
 -- a new generator has a position that a row can start from
 pub seeded-fit : (seed : ℕ) {g : Generator} → g ≡ seeded seed → g .at ≤ 624
@@ -93,20 +93,3 @@ arrayed-fit seed e = rw e (go (eqb (arrayAnswer seed) 0))
     go : (accepted : Bool) → cond accepted (generator (arrayWords seed) 624) noGenerator .at ≤ 624
     go true = omega arith
     go false = omega arith
-
-pub load-goes-on : LoadGoesOn
-unfolding LoadGoesOn loadKey loadMessage stretched
-load-goes-on w seed key message e =
-    let stretches = sym (of-both w (length key)) ∙ of-a-stretch w (length key) 1 ∙ load-stretches w 1 (length key) (length message) (of-a-seed w (length key) (length message) ∙ e) in
-    let g = seeded seed in (
-      key-after w g key message _ e ∙ sym (accepted-row _ _ key stretches ∙ sym (row-whole w g key)),
-      rows-after w g key message _ e,
-    )
-
-pub load-array-goes-on : LoadArrayGoesOn
-unfolding LoadArrayGoesOn loadArrayKey loadArrayMessage stretchedArray
-load-array-goes-on w seed key message e =
-    let g = arrayed seed in (
-      key-after w g key message _ e ∙ sym (accepted-row _ _ key (load-stretches w (length seed) (length key) (length message) e) ∙ sym (row-whole w g key)),
-      rows-after w g key message _ e,
-    )

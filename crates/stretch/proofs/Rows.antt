@@ -7,7 +7,7 @@ use native.Mathlib.Numerals.{add-one}
 use native.Mathlib.Omega.{arith}
 use lib.ListN.{length, take, drop, length-append, length-take, length-drop}
 use lib.Seq.{take-at, take-all, length-take-le, drop-length}
-use Rattle.rows.specs.Written.{table}
+use Rattle.rows.specs.Written.{tabulate}
 use Rattle.mt19937.specs.Published.{generator, ready, taken, nextOf}
 use Rattle.stretch.specs.Stretch.{outputs, after, OutputsGoOn, keyWord, keyFrom, keyRow}
 use Rattle.mt19937.specs.declared.Generator.{Generator}
@@ -44,8 +44,8 @@ row-whole w g old = sym (rw (row-length w (length old) g, drop-length old) (appe
 
 -- the k words from a position on, within one filled state
 block : (w : ℕ) (ws : List ℕ) (from k : ℕ) → from + k ≤ 624
-    → (keyRow w (generator ws from) k ≡ table (keyFrom w ws from) k) × (after k (generator ws from) ≡ generator ws (from + k))
-unfolding keyRow outputs after table keyFrom taken
+    → (keyRow w (generator ws from) k ≡ tabulate (keyFrom w ws from) k) × (after k (generator ws from) ≡ generator ws (from + k))
+unfolding keyRow outputs after tabulate keyFrom taken
 block w ws from zero h = (refl, rw add-zero)
 block w ws from (suc k) h =
     let g = generator ws from in
@@ -58,7 +58,7 @@ block w ws from (suc k) h =
 
 -- the k words from any state on, where those words are left once it is ready
 block-ready : (w k : ℕ) (g : Generator) (ws : List ℕ) (from : ℕ) → g .at ≤ 624 → generator ws from ≡ ready g → from < 624 → 0 < k → from + k ≤ 624
-    → (keyRow w g k ≡ table (keyFrom w ws from) k) × (after k g ≡ generator ws (from + k))
+    → (keyRow w g k ≡ tabulate (keyFrom w ws from) k) × (after k g ≡ generator ws (from + k))
 unfolding keyRow outputs after
 block-ready w zero g ws from h e r p b = absurd (omega arith)
 block-ready w (suc k) g ws from h e r p b =
@@ -81,7 +81,7 @@ row-none w ws used out h = record { within = omega arith; long = refl; fit = h; 
 -- one more block, in the form in which a part of a row is lent
 pub row-next : (w n from end done used : ℕ) (g : Generator) (ws ws′ out part : List ℕ) → done < n
     → generator ws′ from ≡ ready (generator ws used) → end ≡ min (done + (624 - from)) n
-    → part ≡ table (keyFrom w ws′ from) (length (take (end - done) (drop done out)))
+    → part ≡ tabulate (keyFrom w ws′ from) (length (take (end - done) (drop done out)))
     → Begun w g n ws used out done
     → Begun w g n ws′ (from + (end - done)) (take done out ++ (part ++ drop (end - done) (drop done out))) end
 row-next w n from end done used g ws ws′ out part h e m p b =
@@ -90,7 +90,7 @@ row-next w n from end done used g ws ws′ out part h e m p b =
     let whole : done + k ≡ end = omega arith in
     let size : length (take k (drop done out)) ≡ k = simp (length-take, length-drop) (omega arith) in
     let here = block-ready w k (generator ws used) ws′ from (b .fit) e r (omega arith) (omega arith) in
-    let words : part ≡ keyRow w (after done g) k = p ∙ ap (table (keyFrom w ws′ from)) size ∙ sym (here .0) ∙ ap (λ (x : Generator). keyRow w x k) (b .state) in
+    let words : part ≡ keyRow w (after done g) k = p ∙ ap (tabulate (keyFrom w ws′ from)) size ∙ sym (here .0) ∙ ap (λ (x : Generator). keyRow w x k) (b .state) in
     let front : length (take done out) ≡ done = length-take-le done out (omega arith) in
     let mid : length part ≡ k = ap length words ∙ row-length w k (after done g) in
     record {

@@ -2,14 +2,12 @@
 -- of a seed array, of document 02, "Seven". For each the row that it writes, and what it answers.
 use Prim.Native.Nat.{ℕ, zero, suc, _+_, _-_, _/_, _^_}
 use mathlib.Core.Path.{_≡_}
-use mathlib.Core.Bool.{true}
 use mathlib.Core.List.{List, [], _∷_, _++_, map}
 use lib.ListN.{getD, length}
-use Rattle.counts.specs.Digest.{fits}
 use Rattle.answers.specs.Answers.{firstOf, afterwards}
 use Rattle.answers.specs.Table.{widthTest, seedTest, longStretchTest}
 use Rattle.mt19937.specs.Published.{seeded, temper, nextOf}
-use Rattle.mt19937.specs.SeedArray.{arrayed}
+use Rattle.mt19937_array.specs.SeedArray.{arrayed}
 use Rattle.mt19937.specs.declared.Generator.{Generator}
 
 -- 01, The generator: the outputs that follow, n of them
@@ -53,12 +51,3 @@ stretchArrayAnswer w seedWords places = firstOf (widthTest w ∷ seedTest seedWo
 -- 02, "Seven": the stretch of a seed array
 unfoldable pub stretchedArray : ℕ → List ℕ → List ℕ → List ℕ
 stretchedArray w seed row = afterwards (stretchArrayAnswer w (length seed) (length row)) (keyRow w (arrayed seed) (length row)) row
-
--- 01, The sum, has key words below 2^w: an accepted stretch leaves no others, so no digest of that width refuses its row as Word
-unfoldable pub StretchedFits : Type 0
-StretchedFits = (w seed : ℕ) (row : List ℕ) → stretchAnswer w (length row) ≡ 0 → fits w (stretched w seed row) ≡ true
-
--- 02, "Seven": the same of a seed array
-unfoldable pub StretchedArrayFits : Type 0
-StretchedArrayFits =
-    (w : ℕ) (seed row : List ℕ) → stretchArrayAnswer w (length seed) (length row) ≡ 0 → fits w (stretchedArray w seed row) ≡ true

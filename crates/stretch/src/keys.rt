@@ -2,7 +2,7 @@
 ghost use mathlib.Core.Path.{_≡_};
 ghost use Prim.Native.Nat.{_+_, _-_, _≤_, _<_, min};
 ghost use lib.ListN.{length};
-ghost use Rattle.rows.specs.Written.{table};
+ghost use Rattle.rows.specs.Written.{tabulate};
 ghost use Rattle.mt19937.specs.Published.{generator, temper};
 ghost use Rattle.stretch.specs.Stretch.{after, keyWord, keyFrom, keyRow};
 use mt19937::Generator;
@@ -18,7 +18,7 @@ fn key_word(w: u32, y: u32) -> u32
 // The key words of the state words from a position on, as many as there are places.
 fn temper_block(w: u32, words: &[u32; 624], from: usize, out: &mut [u32])
     requires { ⌜ (1 ≤ w) × (w ≤ 32) × (from + length (now out) ≤ 624) ⌝ }
-    ensures { λ _. ⌜ now (out .exit) ≡ table (keyFrom w (now (words .entry)) from) (length (now (out .entry))) ⌝ }
+    ensures { λ _. ⌜ now (out .exit) ≡ tabulate (keyFrom w (now (words .entry)) from) (length (now (out .entry))) ⌝ }
 {
     for i in 0..out.len() {
         out[i] = key_word(w, words[from + i]);

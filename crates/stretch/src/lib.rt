@@ -5,6 +5,7 @@ ghost use lib.ListN.{length};
 ghost use Rattle.stretch.specs.Stretch.{after, keyRow, stretchAnswer, stretched, stretchArrayAnswer, stretchedArray};
 ghost use Rattle.stretch.specs.Load.{loadAnswer, loadArrayAnswer, loadKey, loadMessage, loadArrayKey, loadArrayMessage};
 use mt19937::Generator;
+use mt19937_array::Made;
 
 mod keys;
 
@@ -12,7 +13,7 @@ mod keys;
 pub fn stretch(w: u32, seed: u32, out: &mut [u32]) -> u32
     ensures { λ r. ⌜ (r ≡ stretchAnswer w (length (now (out .entry)))) × (now (out .exit) ≡ stretched w seed (now (out .entry))) ⌝ }
 {
-    let answer = judge(w, 1, out.len(), 0);
+    let answer = validate(w, 1, out.len(), 0);
     if answer != 0 {
         return answer;
     }
@@ -27,11 +28,11 @@ pub fn stretch_array(w: u32, seed: &[u32], out: &mut [u32]) -> u32
         × (now (out .exit) ≡ stretchedArray w (now (seed .entry)) (now (out .entry)))
         ⌝ }
 {
-    let answer = judge(w, seed.len(), out.len(), 0);
+    let answer = validate(w, seed.len(), out.len(), 0);
     if answer != 0 {
         return answer;
     }
-    let made = Generator::from_array(seed);
+    let made = Made::from_array(seed);
     write_row(w, made.state, out);
     0
 }
@@ -44,7 +45,7 @@ pub fn load(w: u32, seed: u32, key: &mut [u32], message: &mut [u32]) -> u32
         × (now (message .exit) ≡ loadMessage w seed (now (key .entry)) (now (message .entry)))
         ⌝ }
 {
-    let answer = judge(w, 1, key.len(), message.len());
+    let answer = validate(w, 1, key.len(), message.len());
     if answer != 0 {
         return answer;
     }
@@ -60,18 +61,18 @@ pub fn load_array(w: u32, seed: &[u32], key: &mut [u32], message: &mut [u32]) ->
         × (now (message .exit) ≡ loadArrayMessage w (now (seed .entry)) (now (key .entry)) (now (message .entry)))
         ⌝ }
 {
-    let answer = judge(w, seed.len(), key.len(), message.len());
+    let answer = validate(w, seed.len(), key.len(), message.len());
     if answer != 0 {
         return answer;
     }
-    let made = Generator::from_array(seed);
+    let made = Made::from_array(seed);
     write_rows(w, made.state, key, message);
     0
 }
 
 // The first test that refuses a call, else 0, by how many words seed, key row and message row have. A plain seed counts as one and a
 // missing message row as none: both pass.
-fn judge(w: u32, seed: usize, key: usize, message: usize) -> u32
+fn validate(w: u32, seed: usize, key: usize, message: usize) -> u32
     ensures { λ r. ⌜ r ≡ loadArrayAnswer w seed key message ⌝ }
 {
     if answers::table::bad_width(w) {

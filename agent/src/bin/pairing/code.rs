@@ -4,7 +4,7 @@ use crate::args::{too_many, Args};
 use crate::digest::one_word;
 use crate::ending::{usage, Answer, Failure};
 use crate::keyed::{key_help, Key, Keyed};
-use crate::message::{label_help, Message, Source};
+use crate::message::{source_help, Message, Source};
 use crate::refused;
 use crate::rule::rule_help;
 use pairing_agent::{Refusal, MOST_CODE_BYTES};
@@ -22,7 +22,7 @@ Usage: pairing code [--width W] [--digits D] (--seed S | --key FILE)
                widths 1 to 3 have no code; 6 if not given
 ",
     key_help!("one word"),
-    label_help!(),
+    source_help!(),
     "
 Prints the last D decimal digits of the one-word digest, all W bits kept, zeros
 in front included: in groups of three, but four at the end as two and two.
@@ -70,7 +70,7 @@ pub fn run(args: Args) -> Result<Answer, Failure> {
     let digits = args.number("--digits")?.unwrap_or(6);
     let source = match Source::given(&args)? {
         (source, []) => source,
-        (Source::Label(_), _) => {
+        (Source::Bytes(_), _) => {
             return Err(usage("only one of FILE and --label can be given"));
         }
         (Source::Numbers(_), [extra, ..]) => return Err(too_many(extra)),

@@ -216,7 +216,7 @@ impl Count {
 }
 
 /// The messages 1 and 1 + 2^h, h being half the width, rounded up: `PairCount` in
-/// crates/counts/specs/TightPair.antt.
+/// crates/theory_digest/specs/TightPair.antt.
 pub struct TightPair {
     pub w: u32,
 }

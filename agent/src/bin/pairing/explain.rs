@@ -51,24 +51,26 @@ fn plain(word: &str) -> String {
 
 fn all() -> impl Iterator<Item = Explained> {
     let others = [
+        // begin: made by tools/answers.py from answers.toml
         (
             0,
             "Accepted",
-            "The call was fit, and its output is written.",
+            "The call is fit, and its output is written.",
             "use the output",
         ),
         (
             100,
             "Match",
-            "Two digests agree at every place.",
+            "The two digests agree at every place.",
             "go on with the pairing",
         ),
         (
             101,
             "No match",
-            "Two digests of the right size differ somewhere.",
+            "The two digests, of n words each, differ at some place.",
             "issue no network key; compare the labels and pair again with a fresh key",
         ),
+        // end: made by tools/answers.py from answers.toml
     ];
     let others = others.map(|(number, word, given, advice)| Explained {
         number,

@@ -1,15 +1,14 @@
 //! The command line of the pairing toolkit.
 //!
-//! Every digest, code, key, load and match is the proved library's; only the words of a label, for
-//! the calls that take words, are made beside it. Settings and lengths go to it as they were given,
-//! and its answer decides.
+//! Every digest, code, key, load and match is the proved library's; only the words that bytes make,
+//! for the calls that take words, are made beside it. Settings and lengths go to it as they were
+//! given, and its answer decides.
 
 #![deny(unsafe_code)]
 
 mod args;
 mod code;
 mod count;
-mod crew;
 mod digest;
 mod ending;
 mod explain;
@@ -21,6 +20,7 @@ mod matching;
 mod message;
 mod number;
 mod output;
+mod peers;
 mod picture;
 mod place;
 mod refused;
@@ -47,7 +47,7 @@ Usage: pairing COMMAND ...
   digest         the digest of a file's bytes
   digest-words   the digest of a row of words
   code           the code of a row of words or a label: digits to be read aloud
-  crew           the digests of a row of words or a label under up to 16 peers' keys
+  peers          the digests of a row of words or a label under up to 16 peers' keys
   words          the words that a file's bytes make, for the commands that take words
   stretch        key words from a seed
   load           a key row and a message row from a seed, for a test bench
@@ -99,10 +99,10 @@ static COMMANDS: [Command; 10] = [
         run: code::run,
     },
     Command {
-        name: "crew",
-        help: crew::HELP,
-        options: crew::OPTIONS,
-        run: crew::run,
+        name: "peers",
+        help: peers::HELP,
+        options: peers::OPTIONS,
+        run: peers::run,
     },
     Command {
         name: "words",

@@ -59,14 +59,14 @@ impl Message {
     }
 }
 
-/// The file of a message that is a row of words, or a label after `--label`.
+/// The file of a message: a row of words, or after `--label` bytes.
 pub enum Source<'a> {
     Numbers(&'a OsStr),
-    Label(&'a OsStr),
+    Bytes(&'a OsStr),
 }
 
 /// What the help of a command says of both.
-macro_rules! label_help {
+macro_rules! source_help {
     () => {
         "  FILE         the message, as a file of numbers; - is standard input
   --label FILE
@@ -75,13 +75,13 @@ macro_rules! label_help {
 "
     };
 }
-pub(crate) use label_help;
+pub(crate) use source_help;
 
 impl<'a> Source<'a> {
     /// The one that is given, and the operands that are left.
     pub fn given(args: &'a Args) -> Result<(Source<'a>, &'a [OsString]), Failure> {
         match (args.value("--label"), args.all_operands()) {
-            (Some(label), rest) => Ok((Source::Label(label), rest)),
+            (Some(file), rest) => Ok((Source::Bytes(file), rest)),
             (None, [file, rest @ ..]) => Ok((Source::Numbers(file), rest)),
             (None, []) => Err(missing("FILE or --label")),
         }
@@ -89,20 +89,20 @@ impl<'a> Source<'a> {
 
     pub fn file(&self) -> &'a OsStr {
         match self {
-            Source::Numbers(file) | Source::Label(file) => file,
+            Source::Numbers(file) | Source::Bytes(file) => file,
         }
     }
 
     pub fn read(&self) -> Result<Message, Failure> {
         match self {
-            Source::Numbers(file) => Message::read_words(file).map_err(or_a_label),
-            Source::Label(file) => Message::read_bytes(file),
+            Source::Numbers(file) => Message::read_words(file).map_err(or_bytes),
+            Source::Bytes(file) => Message::read_bytes(file),
         }
     }
 }
 
-/// A file that is not of numbers may well be a label.
-fn or_a_label(failure: Failure) -> Failure {
+/// A file that is not of numbers may well be of bytes.
+fn or_bytes(failure: Failure) -> Failure {
     match failure {
         Failure::Content(text) => content(format!("{text}; for a label write --label FILE")),
         other => other,

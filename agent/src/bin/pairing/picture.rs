@@ -59,18 +59,18 @@ pub fn draw(count: &Count) -> String {
     }
     svg.line((LEFT, BOTTOM), (RIGHT, BOTTOM), INK, "");
 
-    // The bound's label stands above the plot, the largest count's beside its line inside.
+    // The bound's text stands above the plot, the largest count's beside its line inside.
     let x = axes.x(f64::from(count.bound()));
     svg.line((x, TOP - 8.0), (x, BOTTOM), BOUND, "6 4");
-    let label = format!("proved bound {}", thousands(count.bound()));
-    svg.text(x, TOP - 16.0, "end", 15, BOUND, &label);
+    let text = format!("proved bound {}", thousands(count.bound()));
+    svg.text(x, TOP - 16.0, "end", 15, BOUND, &text);
 
     let x = axes.x(f64::from(count.largest));
     let top_of_bar = axes.y(f64::from(count.reached()));
     svg.line((x, TOP + 14.0), (x, top_of_bar), LARGEST, "2 3");
-    for (row, label) in notes(count).iter().enumerate() {
+    for (row, note) in notes(count).iter().enumerate() {
         let y = TOP + 30.0 + 20.0 * row as f64;
-        svg.text(x - 10.0, y, "end", 15, LARGEST, label);
+        svg.text(x - 10.0, y, "end", 15, LARGEST, note);
     }
     if let Some(tight) = count.tight() {
         let keys = tight.keys();
@@ -83,10 +83,10 @@ pub fn draw(count: &Count) -> String {
     if let Some(&at_even) = count.pairs_at.get(&even) {
         let (x, y) = (axes.x(f64::from(even)), axes.y(f64::from(at_even)));
         let x = x - width / 2.0 - 8.0;
-        let label = format!("{} at {}:", pairs(at_even), thousands(even));
-        svg.text(x, y + 16.0, "end", 15, BAR, &label);
-        let label = format!("one key in {}", thousands(even));
-        svg.text(x, y + 38.0, "end", 15, BAR, &label);
+        let text = format!("{} at {}:", pairs(at_even), thousands(even));
+        svg.text(x, y + 16.0, "end", 15, BAR, &text);
+        let text = format!("one key in {}", thousands(even));
+        svg.text(x, y + 38.0, "end", 15, BAR, &text);
     }
 
     let middle = (LEFT + RIGHT) / 2.0;
@@ -99,7 +99,7 @@ pub fn draw(count: &Count) -> String {
     svg.end()
 }
 
-/// The labels beside the largest count.
+/// The texts beside the largest count.
 fn notes(count: &Count) -> Vec<String> {
     let mut notes = vec![format!(
         "largest count {}, of {}",

@@ -28,7 +28,7 @@ pub fn digest(refusal: Refusal, settings: Settings, message: &Message, key: &[u3
     Failure::Refused(refusal, figures)
 }
 
-pub fn crew(
+pub fn peers(
     refusal: Refusal,
     settings: Settings,
     peers: usize,
@@ -42,8 +42,8 @@ pub fn crew(
         Refusal::Count => Some(count_figures(words)),
         Refusal::Peers => Some(format!("{}; 1 to {MOST_PEERS}", counted(peers, "peer"))),
         Refusal::Long => Some(long_figures(message, settings)),
-        Refusal::Key => key_of_a_crew_figures(settings, message.words(settings), keys),
-        Refusal::Word => word_of_a_crew_figures(message.given_words(), width, keys),
+        Refusal::Key => key_of_a_peer_figures(settings, message.words(settings), keys),
+        Refusal::Word => word_of_a_peer_figures(message.given_words(), width, keys),
         _ => None,
     };
     Failure::Refused(refusal, figures)
@@ -189,7 +189,7 @@ fn key_figures(message_words: usize, digest_words: u32, key_words: usize) -> Str
 }
 
 /// The first key of another length than the others should have.
-fn key_of_a_crew_figures(settings: Settings, words: usize, keys: &[Vec<u32>]) -> Option<String> {
+fn key_of_a_peer_figures(settings: Settings, words: usize, keys: &[Vec<u32>]) -> Option<String> {
     let due = settings.key_words(words);
     let place = keys.iter().position(|key| key.len() != due)?;
     let figures = key_figures(words, settings.words, keys[place].len());
@@ -204,7 +204,7 @@ fn word_figures(message: &[u32], width: u32, key: &[u32]) -> Option<String> {
 }
 
 /// The same of the message or else of the first key that has one.
-fn word_of_a_crew_figures(message: &[u32], width: u32, keys: &[Vec<u32>]) -> Option<String> {
+fn word_of_a_peer_figures(message: &[u32], width: u32, keys: &[Vec<u32>]) -> Option<String> {
     let in_keys = || {
         keys.iter().enumerate().find_map(|(place, key)| {
             let figures = too_large("key", key, width)?;

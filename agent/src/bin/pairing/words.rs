@@ -18,22 +18,22 @@ Usage: pairing words [--width W] FILE
 The byte 0x80 closes the label, as in 'pairing digest': the digest of these words
 is the digest of the bytes. They are made by this command and not by the library,
 which is tested and not proved. Prints them on one line, each as 0x and eight
-hexadecimal digits: a message for 'digest-words', 'code' and 'crew' at the same
-width. 'code' and 'crew' also take a label at once, with --label.
+hexadecimal digits: a message for 'digest-words', 'code' and 'peers' at the same
+width. 'code' and 'peers' also take a label at once, with --label.
 ";
 
 pub fn run(args: Args) -> Result<Answer, Failure> {
     let width = args.number("--width")?.unwrap_or(32);
     let [file] = args.operands(["FILE"])?;
-    let label = Message::read_bytes(file)?;
+    let message = Message::read_bytes(file)?;
     let settings = one_word(width);
     // The library's word on a digest without a key: of all its tests only Key must fail.
-    match label.digest(settings, &[], &mut []) {
+    match message.digest(settings, &[], &mut []) {
         Ok(()) | Err(Refusal::Key) => {}
-        Err(refusal) => return Err(refused::digest(refusal, settings, &label, &[])),
+        Err(refusal) => return Err(refused::digest(refusal, settings, &message, &[])),
     }
-    let words = label.in_words(width);
-    let words = words.map_err(|refusal| refused::digest(refusal, settings, &label, &[]))?;
+    let words = message.in_words(width);
+    let words = words.map_err(|refusal| refused::digest(refusal, settings, &message, &[]))?;
     Ok(Answer::accepted(line(&words)))
 }
 

@@ -1,4 +1,4 @@
--- `fill` meets its contract. Before turn i the first i words are written, and p is word i.
+-- `mt19937::fill` meets its contract. Before turn i the first i words are written, and p is word i.
 use Prim.Native.Nat.{ℕ, zero, _+_, _≤_, _<_, _-_}
 use mathlib.Core.Path.{_≡_, refl, _∙_}
 use mathlib.Core.List.{List}

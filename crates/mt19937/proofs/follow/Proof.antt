@@ -1,4 +1,4 @@
--- `follow` meets its contract: the product may be reduced before the sum.
+-- `mt19937::follow` meets its contract: the product may be reduced before the sum.
 use Prim.Native.Nat.{_^_}
 use mathlib.Core.Path.{_∙_}
 use native.Mathlib.Nat.{mod-add-mod}

@@ -1,4 +1,4 @@
--- `make_ready` meets its contract, by whether the position is 624.
+-- `mt19937::make_ready` meets its contract, by whether the position is 624.
 use borrow.Author.Needs.{needs}
 use Rattle.mt19937.proofs.Laws.{ready-used, ready-other}
 use Rattle.mt19937.proofs.make_ready.Statement.{statement}

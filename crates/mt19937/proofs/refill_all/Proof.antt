@@ -1,4 +1,4 @@
--- `refill_all` meets its contract: two runs and the last step are the 624 steps.
+-- `mt19937::refill_all` meets its contract: two runs and the last step are the 624 steps.
 use borrow.Author.Needs.{needs}
 use Rattle.mt19937.specs.Published.{twist, refill}
 use Rattle.mt19937.proofs.Laws.{steps-none, steps-next}

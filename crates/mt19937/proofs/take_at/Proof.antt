@@ -1,4 +1,4 @@
--- `take_at` meets its contract, by its definition.
+-- `mt19937::take_at` meets its contract, by its definition.
 use borrow.Author.Needs.{needs}
 use Rattle.mt19937.specs.Published.{taken}
 use Rattle.mt19937.proofs.take_at.Statement.{statement}

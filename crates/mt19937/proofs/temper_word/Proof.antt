@@ -1,4 +1,4 @@
--- `temper_word` meets its contract, by its definition.
+-- `mt19937::temper_word` meets its contract, by its definition.
 use mathlib.Core.Path.{refl}
 use Rattle.mt19937.specs.Published.{temper}
 use Rattle.mt19937.proofs.temper_word.Statement.{statement}

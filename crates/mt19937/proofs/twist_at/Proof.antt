@@ -1,4 +1,4 @@
--- `twist_at` meets its contract: the two indices are those of the step.
+-- `mt19937::twist_at` meets its contract: the two indices are those of the step.
 use borrow.Author.Needs.{needs}
 use Rattle.mt19937.specs.Published.{twist}
 use Rattle.mt19937.proofs.twist_at.Statement.{statement}

@@ -1,4 +1,4 @@
--- `twist_run` meets its contract. Before turn i the words are i steps from any words that they were `from` steps from at entry.
+-- `mt19937::twist_run` meets its contract. Before turn i the words are i steps from any words that they were `from` steps from at entry.
 use Prim.Native.Nat.{ℕ, _≤_, _-_}
 use mathlib.Core.Path.{_≡_}
 use mathlib.Core.List.{List}

@@ -1,4 +1,4 @@
--- `twist_word` meets its contract, by the parity of y: its lowest bit is its remainder modulo 2.
+-- `mt19937::twist_word` meets its contract, by the parity of y: its lowest bit is its remainder modulo 2.
 use Prim.Native.Nat.{ℕ, _%_}
 use mathlib.Core.Path.{_≡_, sym, _∙_}
 use borrow.Author.Tests.{eq-eqb, ne-eqb}

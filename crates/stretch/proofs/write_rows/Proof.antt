@@ -1,4 +1,4 @@
--- `write_rows` meets its contract: the second row goes on with the state that the first has left.
+-- `stretch::write_rows` meets its contract: the second row goes on with the state that the first has left.
 use borrow.Author.Needs.{needs}
 use Rattle.stretch.proofs.Rows.{row-of}
 use Rattle.stretch.proofs.write_rows.Statement.{statement}

@@ -4,7 +4,7 @@ use native.Mathlib.Omega.{arith}
 use Rattle.stream.specs.State.{noStream}
 use Rattle.stream.specs.Calls.{openState}
 use Rattle.answers.proofs.States.{state-refused, state-accepted}
-use Rattle.stream.proofs.Judged.{opens}
+use Rattle.stream.proofs.Valid.{opens}
 use Rattle.stream.proofs.Made.{opened-from}
 use borrow.Author.Needs.{needs}
 use Rattle.stream.proofs.Stream.open.Statement.{statement}

@@ -3,11 +3,11 @@ use mathlib.Core.Path.{sym, _∙_}
 use native.Mathlib.Omega.{arith}
 use lib.ListN.{take, length-take}
 use Rattle.rows.proofs.Written.{over-fits}
-use Rattle.counts.specs.Digest.{kept}
+use Rattle.theory_digest.specs.Digest.{kept}
 use Rattle.answers.proofs.Rows.{refused, accepted}
-use Rattle.sums.proofs.Each.{length-map}
+use Rattle.sum_terms.proofs.Each.{length-map}
 use Rattle.stream.specs.Calls.{reading, readRow}
-use Rattle.stream.proofs.Judged.{reads}
+use Rattle.stream.proofs.Valid.{reads}
 use borrow.Author.Needs.{needs}
 use Rattle.stream.proofs.Stream.read.Statement.{statement}
 use Rattle.stream.proofs.Stream.read.Tie as tie

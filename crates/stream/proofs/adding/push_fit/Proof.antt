@@ -2,7 +2,7 @@
 use mathlib.Core.Path.{_≡_, sym}
 use native.Mathlib.Omega.{arith}
 use lib.ListN.{length}
-use Rattle.stream.proofs.Judged.{Takes, takes}
+use Rattle.stream.proofs.Valid.{Takes, takes}
 use Rattle.stream.proofs.Made.{pushed-from}
 use borrow.Author.Needs.{needs}
 use Rattle.stream.proofs.adding.push_fit.Statement.{statement}

@@ -2,7 +2,7 @@
 use mathlib.Core.Path.{_≡_}
 use native.Mathlib.Omega.{arith}
 use lib.ListN.{length, take, length-take}
-use Rattle.answers.proofs.States.{held-length}
+use Rattle.range.proofs.States.{held-length}
 use Rattle.stream.proofs.Joined.{held-sums, joint-sums}
 use borrow.Author.Needs.{needs}
 use Rattle.stream.proofs.adding.push_sums.Statement.{statement}

@@ -3,7 +3,7 @@ use mathlib.Core.Path.{sym}
 use Prim.Native.Nat.{_-_}
 use native.Mathlib.Omega.{arith}
 use lib.ListN.{take, replicate}
-use Rattle.answers.proofs.States.{held-length}
+use Rattle.range.proofs.States.{held-length}
 use Rattle.stream.proofs.Joined.{two-copies}
 use borrow.Author.Needs.{needs}
 use Rattle.stream.proofs.keys.join.Statement.{statement}

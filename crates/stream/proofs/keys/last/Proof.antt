@@ -2,8 +2,8 @@
 use mathlib.Core.Path.{ap, _∙_}
 use native.Mathlib.Omega.{arith}
 use lib.ListN.{take}
-use Rattle.answers.specs.Table.{padded}
-use Rattle.answers.proofs.States.{held-length}
+use Rattle.range.specs.States.{padded}
+use Rattle.range.proofs.States.{held-length}
 use Rattle.stream.proofs.Joined.{last-pushed, last-joint}
 use borrow.Author.Needs.{needs}
 use Rattle.stream.proofs.keys.last.Statement.{statement}

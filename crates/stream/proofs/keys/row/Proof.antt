@@ -2,7 +2,7 @@
 use mathlib.Core.Path.{_∙_}
 use lib.ListN.{replicate}
 use Rattle.rows.proofs.Written.{over-fits}
-use Rattle.answers.specs.Table.{padded}
+use Rattle.range.specs.States.{padded}
 use borrow.Author.Needs.{needs}
 use Rattle.stream.proofs.keys.row.Statement.{statement}
 use Rattle.stream.proofs.keys.row.Tie as tie

@@ -1,5 +1,0 @@
-pub mod Closing
-pub mod Words
-pub mod Blocks
-pub mod FromBytes
-pub mod Closed

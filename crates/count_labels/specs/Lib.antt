@@ -1,2 +1,0 @@
-pub mod Agree
-pub mod Largest

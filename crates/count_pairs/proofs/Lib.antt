@@ -1,4 +1,0 @@
-pub mod Laws
-pub mod Row
-pub mod Compared
-pub mod Found

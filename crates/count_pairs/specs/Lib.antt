@@ -1,4 +1,0 @@
-pub mod Agree
-pub mod Table
-pub mod Search
-pub mod Found

@@ -1,3 +1,0 @@
-pub mod EndToEnd
-pub mod Passed
-pub mod Kept

@@ -1,4 +1,0 @@
-pub mod Crew
-pub mod Calls
-pub mod Shape
-pub mod Kept

@@ -1,1 +1,0 @@
-// What one peer's key is to another's answer: definitions and theorems, no code.

@@ -1,3 +1,0 @@
-pub mod Rise
-pub mod Pairs
-pub mod Suffices

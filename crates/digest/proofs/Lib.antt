@@ -1,4 +1,0 @@
-pub mod Agree
-pub mod FalseMatch
-pub mod Passed
-pub mod Calls

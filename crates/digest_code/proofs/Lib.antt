@@ -1,0 +1,4 @@
+pub mod Digits
+pub mod Reading
+pub mod Passing
+pub mod Valid

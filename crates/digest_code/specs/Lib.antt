@@ -1,0 +1,5 @@
+pub mod Code
+pub mod Digits
+pub mod Call
+pub mod Bytes
+pub mod Reading

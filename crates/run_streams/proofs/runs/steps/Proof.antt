@@ -1,0 +1,33 @@
+-- `run_streams::runs::steps` is safe and ends.
+use Prim.Native.Nat.{_≤_, _-_}
+use borrow.Author.Needs.{needs}
+use Rattle.run_streams.proofs.runs.steps.Statement.{statement}
+use Rattle.run_streams.proofs.runs.steps.Tie as tie
+
+abbrev Inv-loop : tie.InvT-loop
+Inv-loop count run₀ i₀ run i = i ≤ count
+
+abbrev μ-loop : tie.MeasureT-loop
+μ-loop count run₀ i₀ run i = count - i
+
+loop-holds : tie.Need-loop-holds Inv-loop μ-loop
+loop-holds c = search needs
+
+step-requires : tie.Need-step-requires Inv-loop μ-loop
+step-requires c κs = search needs
+
+add-i : tie.Need-add-i Inv-loop μ-loop
+add-i c = search needs
+
+loop-less : tie.Need-loop-less Inv-loop μ-loop
+loop-less c = search needs
+
+loop-again : tie.Need-loop-again Inv-loop μ-loop
+loop-again c = search needs
+
+returns : tie.Need-returns Inv-loop μ-loop
+returns c = search needs
+
+pub steps-spec : {M : Type 1} → statement M
+steps-spec =
+    tie.close (tie.spec Inv-loop μ-loop loop-holds step-requires add-i loop-less loop-again returns)

@@ -1,0 +1,4 @@
+pub mod Closing
+pub mod Words
+pub mod Blocks
+pub mod FromBytes

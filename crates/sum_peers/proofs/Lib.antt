@@ -1,0 +1,3 @@
+pub mod Accumulation
+pub mod Pairs
+pub mod Suffices

@@ -1,0 +1,1 @@
+// Counts over all keys, whatever is counted: definitions and theorems, no code.

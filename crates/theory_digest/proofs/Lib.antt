@@ -1,0 +1,11 @@
+pub mod Periodic
+pub mod Odd
+pub mod Spread
+pub mod Chain
+pub mod Equation
+pub mod Words
+pub mod Demand3
+pub mod Corollaries
+pub mod Laws
+pub mod PairSums
+pub mod TightPair

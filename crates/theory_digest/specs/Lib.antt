@@ -1,0 +1,5 @@
+pub mod Digest
+pub mod Settings
+pub mod Claims
+pub mod Corollaries
+pub mod TightPair

@@ -1,0 +1,1 @@
+// The digest, and the counts over all keys: definitions and theorems, no code.

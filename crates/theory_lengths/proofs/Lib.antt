@@ -1,0 +1,4 @@
+pub mod CommonKey
+pub mod Closed
+pub mod ByteMessages
+pub mod Calls

@@ -1,0 +1,1 @@
+// Messages of different length under one key: definitions and theorems, no code.

@@ -1,0 +1,1 @@
+// How often two different messages match: definitions and theorems, no code.

@@ -1,0 +1,1 @@
+// What one peer's key is to another's row: definitions and theorems, no code.

@@ -1,0 +1,1 @@
+// What a stretch and a load leave: definitions and theorems, no code.

@@ -1,1 +1,0 @@
-// Labels of different length under one key: definitions and theorems, no code.
