@@ -1,4 +1,3 @@
--- Laws that several proofs cite, and the theorem about one word.
+-- Laws that several proofs cite.
 pub mod SeedArray
 pub mod Below
-pub mod OneWord

@@ -1,2 +1,2 @@
--- The definitions that the contracts cite, and the claims about them.
+-- The definitions that the contracts cite.
 pub mod SeedArray

@@ -9,20 +9,21 @@ use lib.ListN.{length, take, drop, length-append, length-take, length-drop}
 use lib.Seq.{take-at, take-all, length-take-le, drop-length}
 use Rattle.rows.specs.Written.{tabulate}
 use Rattle.mt19937.specs.Published.{generator, ready, taken, nextOf}
-use Rattle.stretch.specs.Stretch.{outputs, after, OutputsGoOn, keyWord, keyFrom, keyRow}
+use Rattle.stretch.specs.Stretch.{outputs, after, keyWord, keyFrom, keyRow}
 use Rattle.mt19937.specs.declared.Generator.{Generator}
 use Rattle.mt19937.specs.declared.Next.{Next}
 use Rattle.mt19937.proofs.Laws.{ready-left, next-taken, next-within}
 
-pub outputs-go-on : OutputsGoOn
-unfolding OutputsGoOn outputs after
-outputs-go-on zero m g = rw zero-add
-outputs-go-on (suc k) m g = rw (suc-add k m) (ap (λ (l : List ℕ). nextOf g .word ∷ l) (outputs-go-on k m (nextOf g .state)))
+-- a row of outputs and then a row of those that follow are one row
+pub outputs-append : (k m : ℕ) (g : Generator) → outputs (k + m) g ≡ outputs k g ++ outputs m (after k g)
+unfolding outputs after
+outputs-append zero m g = rw zero-add
+outputs-append (suc k) m g = rw (suc-add k m) (ap (λ (l : List ℕ). nextOf g .word ∷ l) (outputs-append k m (nextOf g .state)))
 
 -- so a longer row of key words goes on from the state after its first part
 pub row-more : (w n m : ℕ) (g : Generator) → keyRow w g (n + m) ≡ keyRow w g n ++ keyRow w (after n g) m
-unfolding keyRow OutputsGoOn
-row-more w n m g = ap (map (keyWord w)) (outputs-go-on n m g) ∙ map-append (keyWord w) (outputs n g) (outputs m (after n g))
+unfolding keyRow
+row-more w n m g = ap (map (keyWord w)) (outputs-append n m g) ∙ map-append (keyWord w) (outputs n g) (outputs m (after n g))
 
 pub after-more : (n m : ℕ) (g : Generator) → after (n + m) g ≡ after m (after n g)
 unfolding after

@@ -20,10 +20,6 @@ unfoldable pub after : ℕ → Generator → Generator
 after zero g = g
 after (suc n) g = after n (nextOf g .state)
 
--- 02, "Seven": a row of outputs and then a row of those that follow are one row, of as many as both
-unfoldable pub OutputsGoOn : Type 0
-OutputsGoOn = (k m : ℕ) (g : Generator) → outputs (k + m) g ≡ outputs k g ++ outputs m (after k g)
-
 -- 02, "Six": a key word is the output divided by 2^(32−w), rounded down: its upper w bits
 unfoldable pub keyWord : ℕ → ℕ → ℕ
 keyWord w output = output / 2 ^ (32 - w)

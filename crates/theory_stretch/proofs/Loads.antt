@@ -1,4 +1,4 @@
--- A load is one row of outputs, cut in two.
+-- Rows of outputs go on, and a load is one of them, cut in two.
 use mathlib.Core.Path.{sym, _∙_}
 use lib.ListN.{length}
 use Rattle.answers.proofs.Rows.{accepted-row}
@@ -6,9 +6,13 @@ use Rattle.mt19937.specs.Published.{seeded}
 use Rattle.mt19937_array.specs.SeedArray.{arrayed}
 use Rattle.stretch.specs.Stretch.{stretched, stretchedArray}
 use Rattle.stretch.specs.Load.{loadKey, loadMessage, loadArrayKey, loadArrayMessage}
-use Rattle.theory_stretch.specs.Claims.{LoadGoesOn, LoadArrayGoesOn}
-use Rattle.stretch.proofs.Rows.{row-whole}
+use Rattle.theory_stretch.specs.Claims.{OutputsGoOn, LoadGoesOn, LoadArrayGoesOn}
+use Rattle.stretch.proofs.Rows.{outputs-append, row-whole}
 use Rattle.stretch.proofs.Loads.{key-after, load-stretches, of-a-seed, of-a-stretch, of-both, rows-after}
+
+pub outputs-go-on : OutputsGoOn
+unfolding OutputsGoOn
+outputs-go-on k m g = outputs-append k m g
 
 pub load-goes-on : LoadGoesOn
 unfolding LoadGoesOn loadKey loadMessage stretched

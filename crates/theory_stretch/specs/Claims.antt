@@ -1,4 +1,4 @@
--- What a stretch and a load leave: rows that fit their width, and that a load is one row of outputs cut in two.
+-- What a stretch and a load leave: rows that fit their width, and that rows of outputs go on, so that a load is one row cut in two.
 use mathlib.Core.Path.{_≡_}
 use mathlib.Core.Bool.{true}
 use mathlib.Core.List.{List, _++_}
@@ -6,9 +6,14 @@ use Prim.Native.Nat.{ℕ, _+_}
 use lib.ListN.{length}
 use Rattle.theory_counts.specs.Words.{fits}
 use Rattle.mt19937.specs.Published.{seeded}
+use Rattle.mt19937.specs.declared.Generator.{Generator}
 use Rattle.mt19937_array.specs.SeedArray.{arrayed}
-use Rattle.stretch.specs.Stretch.{keyRow, stretchAnswer, stretched, stretchArrayAnswer, stretchedArray}
+use Rattle.stretch.specs.Stretch.{outputs, after, keyRow, stretchAnswer, stretched, stretchArrayAnswer, stretchedArray}
 use Rattle.stretch.specs.Load.{loadAnswer, loadKey, loadMessage, loadArrayAnswer, loadArrayKey, loadArrayMessage}
+
+-- 02, "Seven": a row of outputs and then a row of those that follow are one row, of as many as both
+unfoldable pub OutputsGoOn : Type 0
+OutputsGoOn = (k m : ℕ) (g : Generator) → outputs (k + m) g ≡ outputs k g ++ outputs m (after k g)
 
 -- 01, The sum, has key words below 2^w: an accepted stretch leaves no others, so no digest of that width refuses its row as Word
 unfoldable pub StretchedFits : Type 0

@@ -13,7 +13,8 @@ use Rattle.rows.proofs.Written.{length-tabulate, tabulate-at}
 use Rattle.answers.specs.Answers.{firstOf}
 use Rattle.answers.specs.Table.{badSeed}
 use Rattle.mt19937.specs.Published.{steps, generator, newWord, newWords, seeded, concatenated, twist, refill, ready, taken, nextAnswer, nextOf}
-use Rattle.mt19937_array.specs.SeedArray.{put, seedStep, indexStep, arrayWords, arrayAnswer, arrayed, OneWordIsNoSeed, LowBitsUnread, OneWordTopBit}
+use Rattle.mt19937_array.specs.SeedArray.{put, seedStep, indexStep, arrayWords, arrayAnswer, arrayed}
+use Rattle.theory_seeds.specs.Claims.{OneWordIsNoSeed, LowBitsUnread, OneWordTopBit}
 use Rattle.mt19937.specs.declared.Generator.{Generator}
 
 put-long : (i word : ℕ) (ws : List ℕ) → length (put i word ws) ≡ length ws

@@ -1,0 +1,1 @@
+// What a one-word array is to the plain seed: definitions and theorems, no code.
