@@ -35,12 +35,16 @@ pairing: lib
 	@$(CARGO) build $(PACKAGE) --release --quiet --bin pairing
 	@echo "The command line is target/agent/release/pairing."
 
-# the proved digests beside Rust loops, the stretch and the loads beside C++'s generator, each in one run
+# the proved digests beside Rust loops, stretch and loads beside C++'s generator, pushes in a row beside those by value
 bench: lib
 	$(CARGO) bench $(PACKAGE) --bench digests
 	@mkdir -p target/bench
 	c++ -std=c++17 -Wall -Wextra -Werror -O3 -Iinclude bench/stretch.cpp $(LIBRARY) -o target/bench/stretch
 	target/bench/stretch
+	rt staticlib bench_streams >target/bench/streams.log
+	c++ -std=c++17 -Wall -Wextra -Werror -O3 -Iinclude bench/streams.cpp $(LIBRARY) target/staticlib/libbench_streams.a \
+	    -o target/bench/streams
+	target/bench/streams
 
 # ten million random calls against an independent implementation, for ten minutes at most
 soak: lib

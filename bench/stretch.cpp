@@ -1,13 +1,13 @@
 // The proved stretch and loads beside std::mt19937, filling the same rows in one run. Each side makes its generator new
 // every time.
 #include "pairing.h"
+#include "sides.hpp"
 
 #include <algorithm>
 #include <array>
 #include <chrono>
 #include <cstdint>
 #include <cstdio>
-#include <cstdlib>
 #include <random>
 #include <vector>
 
@@ -26,16 +26,6 @@ struct Rows {
 const int rounds = 1000;
 
 const double goal = 0.2;
-
-[[noreturn]] void stop(const char *why) {
-    std::fputs(why, stderr);
-    std::exit(1);
-}
-
-void accepted(std::uint32_t answer) {
-    if (answer != PAIRING_ACCEPTED)
-        stop("the library refuses\n");
-}
 
 Array array_of(std::uint32_t seed) {
     Array array;

@@ -7,8 +7,8 @@
  * The caller's premises, on which every promise rests:
  *   - each pointer is aligned and stands at as many words or bytes as its count
  *     says; at a count of 0 it may be anything aligned, NULL too;
- *   - an output row overlaps no other row of the same call, and nothing else
- *     writes a lent row while the call runs.
+ *   - an output row, as a state that a call changes is too, overlaps no other row of
+ *     the same call, and nothing else writes a lent row while the call runs.
  * Nothing is asked of any number or word: a call that is not fit is refused.
  *
  * A call's tests run in the order in which the answers stand below, and the first
@@ -41,9 +41,9 @@
 
 /* The version of this header and of the library that goes with it. */
 #define PAIRING_VERSION_MAJOR 0
-#define PAIRING_VERSION_MINOR 8
+#define PAIRING_VERSION_MINOR 9
 #define PAIRING_VERSION_PATCH 0
-#define PAIRING_VERSION "0.8.0"
+#define PAIRING_VERSION "0.9.0"
 
 /* The same as a number. Where pairing_version() answers another, the library that is
  * linked is not this header's. */
@@ -72,9 +72,10 @@ extern "C" {
 enum {
     /* Accepted: The call is fit, and its output is written. */
     PAIRING_ACCEPTED = 0,
-    /* State: The state of a stream or generator holds a number outside its range, or
-     * something in a place not in use. Only calls from Rattle take a state: no C entry,
-     * Rust function or command answers this. */
+    /* State: The row of a stream's state does not have exactly 21 words, or it holds a
+     * number outside its range, or something in a place not in use. The state of a
+     * generator, which only calls from Rattle take, has a position above 624. No command
+     * takes a state. */
     PAIRING_STATE = 8,
     /* Width: The width w is not 1 to 32; for bytes, not 8, 16 or 32. */
     PAIRING_WIDTH = 1,
@@ -99,8 +100,8 @@ enum {
      * does not have n words, or a push has more words of one kind than of the other. */
     PAIRING_KEY = 5,
     /* Tray: The output has fewer places than the call writes: n, for a code (d+1)/2
-     * bytes rounded down, for p peers p times n. In a match: a row does not have exactly
-     * n words. */
+     * bytes rounded down, for p peers p times n, for an opened stream the 21 of its
+     * state. In a match: a row does not have exactly n words. */
     PAIRING_TRAY = 6,
     /* Word: A word of the message, or of any key, has more than w bits: it is 2^w or
      * more. */
@@ -112,7 +113,7 @@ enum {
 };
 /* end: made by tools/answers.py from answers.toml */
 
-/* The most message words of one digest or load. One byte closes a message of bytes,
+/* The most message words of one digest, stream or load. One byte closes a message of bytes,
  * so at width w it has at most w / 8 * PAIRING_MOST_WORDS - 1. */
 #define PAIRING_MOST_WORDS 65536
 
@@ -131,6 +132,23 @@ enum {
 /* The most digits that a code has, at widths 30 to 32, and the most bytes. */
 #define PAIRING_MOST_CODE_DIGITS 9
 #define PAIRING_MOST_CODE_BYTES 5
+
+/*
+ * The sizes of states. A state is a row that the caller keeps between calls. The sizes
+ * differ, so that one kind is never taken for another: a row of another length than
+ * its kind's is PAIRING_STATE. Only the stream has calls yet. The other three sizes
+ * belong to later calls: a label that is edited, parts that arrive out of turn, and
+ * the exchange, whose state is of bytes.
+ *
+ * A state is numbers and nothing else. It may be copied, kept and sent as words, and
+ * compared: states of equal words are answered alike. Every row is allowed as input
+ * and has a defined outcome, whoever wrote it; of 21 words, a stream's is PAIRING_STATE
+ * where the numbers are not fit, and otherwise goes on from them.
+ */
+#define PAIRING_STREAM_WORDS 21
+#define PAIRING_INCREMENTAL_WORDS 12
+#define PAIRING_PARTS_WORDS 268
+#define PAIRING_EXCHANGE_BYTES 2150
 
 /* The version of the library that is linked, as PAIRING_VERSION_NUMBER writes it. */
 PAIRING_USE_ANSWER
@@ -207,6 +225,55 @@ uint32_t pairing_digest_peers(uint32_t w, uint32_t b, uint32_t n, uint32_t p,
                               const uint32_t *message, size_t message_words,
                               const uint32_t *keys, size_t keys_words,
                               uint32_t *out, size_t out_words);
+
+/*
+ * Opens a stream, which digests a message in parts: it has taken no words, and key has
+ * its first n key words. w, b and n are as for pairing_digest_words.
+ *
+ * Answers PAIRING_ACCEPTED with the state in the first PAIRING_STREAM_WORDS places of
+ * state, places beyond keeping what they held; or PAIRING_WIDTH, PAIRING_KEPT,
+ * PAIRING_COUNT, PAIRING_KEY where key is not n words, PAIRING_TRAY where state has
+ * fewer places, or PAIRING_WORD. What state holds before is not looked at. The key is
+ * only read.
+ *
+ * The words of the state, counted from 0: w, b, n and the words taken; from 4 on n
+ * sums of w bits, in eight places; from 12 on the last n key words, in eight places;
+ * at 20 nothing yet. What is not in use is 0. It holds key words, so it is as secret
+ * as the key.
+ */
+PAIRING_USE_ANSWER
+uint32_t pairing_stream_open(uint32_t w, uint32_t b, uint32_t n,
+                             const uint32_t *key, size_t key_words,
+                             uint32_t *state, size_t state_words);
+
+/*
+ * Takes a part of the message, none among them, with the key words that follow those
+ * given before, as many as the part has words.
+ *
+ * Answers PAIRING_ACCEPTED with the state after it in state; or PAIRING_STATE where
+ * state is not exactly PAIRING_STREAM_WORDS words or not fit: w, b or n out of range,
+ * more than PAIRING_MOST_WORDS words taken, a sum or key word of 2^w or more, a place
+ * not in use that is not 0; or PAIRING_LONG where the words taken and these are more
+ * than PAIRING_MOST_WORDS, PAIRING_KEY where one part has more words than the other,
+ * or PAIRING_WORD. Message and key are only read.
+ */
+PAIRING_USE_ANSWER
+uint32_t pairing_stream_push(uint32_t *state, size_t state_words,
+                             const uint32_t *message, size_t message_words,
+                             const uint32_t *key, size_t key_words);
+
+/*
+ * Reads the digest of the words taken so far under the key words so far: the one that
+ * pairing_digest_words writes of them, however they were cut into parts; this is
+ * proved. Pushing may go on.
+ *
+ * Answers PAIRING_ACCEPTED with the digest in the first n places of out, places beyond
+ * keeping what they held; or PAIRING_STATE as above, or PAIRING_TRAY. The state is
+ * only read.
+ */
+PAIRING_USE_ANSWER
+uint32_t pairing_stream_read(const uint32_t *state, size_t state_words,
+                             uint32_t *out, size_t out_words);
 
 /*
  * Fills the whole of out with key words, each the upper w bits of the next output of

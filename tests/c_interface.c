@@ -567,6 +567,235 @@ static int load_refused(void)
     return 1;
 }
 
+/* A stream's state: w, b, n and the words taken; sums; key words; a place that nothing uses yet. */
+struct stream {
+    uint32_t numbers[4], sums[8], keys[8], last;
+};
+
+static int is_state(const uint32_t *row, const struct stream *due)
+{
+    return sizeof *due == PAIRING_STREAM_WORDS * sizeof row[0] && memcmp(row, due, sizeof *due) == 0;
+}
+
+/* Case G of document 01, and case C at the end. Places beyond the state and beyond the digest keep what they held. */
+static int stream_read_at_every_moment(void)
+{
+    static const struct stream opened = {{8, 8, 2, 0}, {0}, {10, 20}, 0};
+    static const struct stream after_one = {{8, 8, 2, 1}, {0x1e, 0x3d}, {20, 100}, 0};
+    static const struct stream after_two = {{8, 8, 2, 2}, {0xac, 0xff}, {100, 250}, 0};
+    enum { STATE = PAIRING_STREAM_WORDS };
+    uint32_t row[STATE + 3], out[] = {9, 9, 9};
+    hold_nines(row, WORDS(row));
+    return pairing_stream_open(8, 8, 2, key, 2, row, WORDS(row)) == PAIRING_ACCEPTED && is_state(row, &opened) &&
+           pairing_stream_read(row, STATE, out, 3) == PAIRING_ACCEPTED && out[0] == 0 && out[1] == 0 &&
+           pairing_stream_push(row, STATE, message, 1, key + 2, 1) == PAIRING_ACCEPTED && is_state(row, &after_one) &&
+           pairing_stream_read(row, STATE, out, 3) == PAIRING_ACCEPTED && out[0] == 0x1e && out[1] == 0x3d &&
+           pairing_stream_push(row, STATE, message + 1, 1, key + 3, 1) == PAIRING_ACCEPTED &&
+           is_state(row, &after_two) && pairing_stream_read(row, STATE, out, 2) == PAIRING_ACCEPTED && out[0] == 0xac &&
+           out[1] == 0xff && out[2] == 9 && holds_nines(row + STATE, 3);
+}
+
+/* Case D: the sums have all bits until they are read. */
+static int stream_with_bits_dropped(void)
+{
+    static const struct stream due = {{8, 4, 2, 2}, {0xac, 0xff}, {100, 250}, 0};
+    uint32_t row[PAIRING_STREAM_WORDS], out[] = {9, 9};
+    return pairing_stream_open(8, 4, 2, key, 2, row, WORDS(row)) == PAIRING_ACCEPTED &&
+           pairing_stream_push(row, WORDS(row), message, 2, key + 2, 2) == PAIRING_ACCEPTED && is_state(row, &due) &&
+           pairing_stream_read(row, WORDS(row), out, 2) == PAIRING_ACCEPTED && out[0] == 0x0c && out[1] == 0x0f;
+}
+
+/* A message cut at every place reads as the whole, for every number of digest words. */
+static int stream_cut_at_every_place(void)
+{
+    enum { WIDE = PAIRING_MOST_DIGEST_WORDS, LONG = 41 };
+    static uint32_t words[LONG], keys[LONG + WIDE];
+    uint32_t n, word = 1;
+    size_t i, cut;
+    for (i = 0; i < WORDS(words); i++)
+        words[i] = word = word * 1664525 + 1013904223;
+    for (i = 0; i < WORDS(keys); i++)
+        keys[i] = word = word * 1664525 + 1013904223;
+    for (n = 1; n <= WIDE; n++)
+        for (cut = 0; cut <= LONG; cut++) {
+            uint32_t row[PAIRING_STREAM_WORDS], out[WIDE], whole[WIDE];
+            const uint32_t *rest = keys + n;
+            hold_nines(row, WORDS(row));
+            if (pairing_stream_open(32, 32, n, keys, n, row, WORDS(row)) != PAIRING_ACCEPTED ||
+                pairing_stream_push(row, WORDS(row), words, cut, rest, cut) != PAIRING_ACCEPTED ||
+                pairing_stream_push(row, WORDS(row), words + cut, LONG - cut, rest + cut, LONG - cut) !=
+                    PAIRING_ACCEPTED ||
+                pairing_stream_read(row, WORDS(row), out, n) != PAIRING_ACCEPTED ||
+                pairing_digest_words(32, 32, n, words, LONG, keys, LONG + n, whole, n) != PAIRING_ACCEPTED ||
+                memcmp(out, whole, n * sizeof out[0]) != 0)
+                return 0;
+        }
+    return 1;
+}
+
+/* The last word alone is 1, and 5 the key word under it. After the most words only an empty part passes. */
+static int stream_at_the_most_words(void)
+{
+    enum { MOST = PAIRING_MOST_WORDS, STATE = PAIRING_STREAM_WORDS };
+    static uint32_t words[MOST + 1], keys[MOST + 1];
+    const uint32_t zero = 0;
+    uint32_t row[STATE], before[STATE], out = 9;
+    words[MOST - 1] = 1;
+    keys[MOST - 2] = 5;
+    if (pairing_stream_open(32, 32, 1, &zero, 1, row, STATE) != PAIRING_ACCEPTED)
+        return 0;
+    memcpy(before, row, sizeof row);
+    if (pairing_stream_push(row, STATE, words, MOST + 1, keys, MOST + 1) != PAIRING_LONG ||
+        memcmp(row, before, sizeof row) != 0 ||
+        pairing_stream_push(row, STATE, words, MOST, keys, MOST) != PAIRING_ACCEPTED || row[3] != MOST)
+        return 0;
+    memcpy(before, row, sizeof row);
+    return pairing_stream_push(row, STATE, &zero, 1, &zero, 1) == PAIRING_LONG &&
+           pairing_stream_push(row, STATE, &zero, 0, &zero, 0) == PAIRING_ACCEPTED &&
+           memcmp(row, before, sizeof row) == 0 && pairing_stream_read(row, STATE, &out, 1) == PAIRING_ACCEPTED &&
+           out == 5;
+}
+
+/* A state that is copied as words goes on as the one that it was copied from. */
+static int stream_copied(void)
+{
+    uint32_t row[PAIRING_STREAM_WORDS], copy[PAIRING_STREAM_WORDS];
+    if (pairing_stream_open(8, 8, 2, key, 2, row, WORDS(row)) != PAIRING_ACCEPTED)
+        return 0;
+    memcpy(copy, row, sizeof row);
+    return pairing_stream_push(row, WORDS(row), message, 2, key + 2, 2) == PAIRING_ACCEPTED &&
+           memcmp(copy, row, sizeof row) != 0 &&
+           pairing_stream_push(copy, WORDS(copy), message, 2, key + 2, 2) == PAIRING_ACCEPTED &&
+           memcmp(copy, row, sizeof row) == 0;
+}
+
+static int stream_open_refused(void)
+{
+    enum { STATE = PAIRING_STREAM_WORDS };
+    static const uint32_t keys[] = {10, 20, 256, 1, 1, 1, 1, 1, 1};
+    static const struct {
+        uint32_t due, w, b, n;
+        size_t key_words, state_words;
+    } calls[] = {
+        {PAIRING_WIDTH, 0, 0, 0, 3, 0},
+        {PAIRING_WIDTH, 33, 8, 2, 2, STATE},
+        {PAIRING_KEPT, 8, 0, 9, 3, 0},
+        {PAIRING_KEPT, 8, 9, 2, 2, STATE},
+        {PAIRING_COUNT, 8, 8, 0, 0, STATE},
+        {PAIRING_COUNT, 8, 8, 0, 3, 0},
+        {PAIRING_COUNT, 8, 8, 9, 9, STATE},
+        {PAIRING_KEY, 8, 8, 2, 1, STATE},
+        {PAIRING_KEY, 8, 8, 2, 0, STATE},
+        /* before a row that is too short, and a word that is too large */
+        {PAIRING_KEY, 8, 8, 2, 3, STATE - 1},
+        {PAIRING_TRAY, 8, 8, 2, 2, STATE - 1},
+        {PAIRING_TRAY, 8, 8, 2, 2, 0},
+        {PAIRING_TRAY, 8, 8, 3, 3, STATE - 1},
+        {PAIRING_WORD, 8, 8, 3, 3, STATE},
+        {PAIRING_WORD, 8, 8, 8, 8, STATE + 3},
+    };
+    uint32_t row[STATE + 3];
+    size_t i;
+    hold_nines(row, WORDS(row));
+    for (i = 0; i < WORDS(calls); i++)
+        if (pairing_stream_open(calls[i].w, calls[i].b, calls[i].n, keys, calls[i].key_words, row,
+                                calls[i].state_words) != calls[i].due ||
+            !holds_nines(row, WORDS(row)))
+            return 0;
+    return 1;
+}
+
+/* Three words are left. What is pushed starts at one of four places. */
+static int stream_push_refused(void)
+{
+    enum { STATE = PAIRING_STREAM_WORDS };
+    static const uint32_t words[] = {3, 7, 256, 5}, keys[] = {100, 250, 1, 256};
+    static const struct {
+        uint32_t due;
+        size_t state_words, from, message_words, key_words;
+    } calls[] = {
+        {PAIRING_STATE, STATE - 1, 0, 1, 1},
+        {PAIRING_STATE, STATE + 1, 0, 1, 1},
+        {PAIRING_STATE, 0, 0, 0, 0},
+        {PAIRING_STATE, STATE - 1, 0, 4, 3},
+        {PAIRING_LONG, STATE, 0, 4, 4},
+        {PAIRING_LONG, STATE, 0, 4, 3},
+        {PAIRING_KEY, STATE, 0, 2, 1},
+        {PAIRING_KEY, STATE, 0, 0, 1},
+        {PAIRING_KEY, STATE, 0, 1, 0},
+        {PAIRING_KEY, STATE, 2, 1, 2},
+        /* the message's last word, then only the key's */
+        {PAIRING_WORD, STATE, 0, 3, 3},
+        {PAIRING_WORD, STATE, 3, 1, 1},
+    };
+    static const struct stream state = {{8, 4, 2, PAIRING_MOST_WORDS - 3}, {255, 1}, {10, 20}, 0};
+    uint32_t row[STATE + 1] = {0}, before[STATE + 1];
+    size_t i;
+    memcpy(row, &state, sizeof state);
+    memcpy(before, row, sizeof row);
+    for (i = 0; i < WORDS(calls); i++)
+        if (pairing_stream_push(row, calls[i].state_words, words + calls[i].from, calls[i].message_words,
+                                keys + calls[i].from, calls[i].key_words) != calls[i].due ||
+            memcmp(row, before, sizeof row) != 0)
+            return 0;
+    return 1;
+}
+
+static int stream_read_refused(void)
+{
+    enum { STATE = PAIRING_STREAM_WORDS };
+    static const struct {
+        uint32_t due;
+        size_t state_words, out_words;
+    } calls[] = {
+        {PAIRING_STATE, STATE - 1, 3}, {PAIRING_STATE, STATE + 1, 3}, {PAIRING_STATE, 0, 3},
+        {PAIRING_STATE, STATE - 1, 1}, {PAIRING_STATE, STATE + 1, 0}, {PAIRING_TRAY, STATE, 1},
+        {PAIRING_TRAY, STATE, 0},
+    };
+    static const struct stream state = {{8, 4, 2, PAIRING_MOST_WORDS}, {255, 1}, {10, 20}, 0};
+    uint32_t row[STATE + 1] = {0}, before[STATE + 1], out[3];
+    size_t i;
+    memcpy(row, &state, sizeof state);
+    memcpy(before, row, sizeof row);
+    hold_nines(out, WORDS(out));
+    for (i = 0; i < WORDS(calls); i++)
+        if (pairing_stream_read(row, calls[i].state_words, out, calls[i].out_words) != calls[i].due ||
+            memcmp(row, before, sizeof row) != 0 || !holds_nines(out, WORDS(out)))
+            return 0;
+    return 1;
+}
+
+/* A fit state with another word at one place, which makes it unfit. */
+static int stream_state_refused(void)
+{
+    static const struct {
+        size_t place;
+        uint32_t word;
+    } others[] = {
+        {0, 0},  {0, 33},    {0, 7},          {0, UINT32_MAX}, {1, 0},          {1, 9},    {2, 0},  {2, 1},
+        {2, 9},  {3, 65537}, {3, UINT32_MAX}, {4, 256},        {5, UINT32_MAX}, {6, 1},    {7, 1},  {8, 1},
+        {9, 1},  {10, 1},    {11, 1},         {12, 256},       {13, 256},       {14, 1},   {15, 1}, {16, 256},
+        {17, 1}, {18, 1},    {19, 1},         {20, 1},         {20, 0x10000u},
+    };
+    static const struct stream state = {{8, 4, 2, 3}, {255, 1}, {10, 20}, 0};
+    const uint32_t one = 1;
+    uint32_t row[PAIRING_STREAM_WORDS], before[PAIRING_STREAM_WORDS], out[] = {9, 9};
+    size_t i;
+    memcpy(row, &state, sizeof state);
+    if (pairing_stream_push(row, WORDS(row), &one, 1, &one, 1) != PAIRING_ACCEPTED)
+        return 0;
+    for (i = 0; i < WORDS(others); i++) {
+        memcpy(row, &state, sizeof state);
+        row[others[i].place] = others[i].word;
+        memcpy(before, row, sizeof row);
+        if (pairing_stream_push(row, WORDS(row), &one, 1, &one, 1) != PAIRING_STATE ||
+            pairing_stream_read(row, WORDS(row), out, 2) != PAIRING_STATE || memcmp(row, before, sizeof row) != 0 ||
+            out[0] != 9 || out[1] != 9)
+            return 0;
+    }
+    return 1;
+}
+
 static int match(void)
 {
     const uint32_t same[] = {3, 7};
@@ -641,6 +870,27 @@ static int null_peers(void)
            pairing_digest_peers(0, 0, 0, 0, NULL, 0, NULL, 0, NULL, 0) == PAIRING_WIDTH;
 }
 
+static int null_streams(void)
+{
+    const uint32_t seven = 7;
+    uint32_t row[PAIRING_STREAM_WORDS], before[PAIRING_STREAM_WORDS], out = 9;
+    if (pairing_stream_open(8, 8, 1, &seven, 1, row, WORDS(row)) != PAIRING_ACCEPTED)
+        return 0;
+    memcpy(before, row, sizeof row);
+    return pairing_stream_open(0, 0, 0, NULL, 0, NULL, 0) == PAIRING_WIDTH &&
+           pairing_stream_open(8, 8, 1, NULL, 0, row, WORDS(row)) == PAIRING_KEY &&
+           pairing_stream_open(8, 8, 1, NULL, 0, NULL, 0) == PAIRING_KEY &&
+           pairing_stream_open(8, 8, 1, &seven, 1, NULL, 0) == PAIRING_TRAY &&
+           pairing_stream_push(NULL, 0, NULL, 0, NULL, 0) == PAIRING_STATE &&
+           pairing_stream_push(row, WORDS(row), NULL, 0, NULL, 0) == PAIRING_ACCEPTED &&
+           pairing_stream_push(row, WORDS(row), &seven, 1, NULL, 0) == PAIRING_KEY &&
+           pairing_stream_push(row, WORDS(row), NULL, 0, &seven, 1) == PAIRING_KEY &&
+           pairing_stream_read(NULL, 0, NULL, 0) == PAIRING_STATE &&
+           pairing_stream_read(NULL, 0, &out, 1) == PAIRING_STATE &&
+           pairing_stream_read(row, WORDS(row), NULL, 0) == PAIRING_TRAY && out == 9 &&
+           memcmp(row, before, sizeof row) == 0;
+}
+
 /* The seed, and each row of a load with the other row there. */
 static int null_seeds(void)
 {
@@ -667,7 +917,7 @@ static int version(void)
     return strcmp(text, PAIRING_VERSION) == 0;
 }
 
-/* The archive is the header's: 0.8.0 is 800. */
+/* The archive is the header's: 0.9.0 is 900. */
 static int version_of_the_library(void)
 {
     char text[32];
@@ -712,6 +962,15 @@ static const struct {
     {"array_loaded", array_loaded},
     {"loaded_to_the_most_words", loaded_to_the_most_words},
     {"load_refused", load_refused},
+    {"stream_read_at_every_moment", stream_read_at_every_moment},
+    {"stream_with_bits_dropped", stream_with_bits_dropped},
+    {"stream_cut_at_every_place", stream_cut_at_every_place},
+    {"stream_at_the_most_words", stream_at_the_most_words},
+    {"stream_copied", stream_copied},
+    {"stream_open_refused", stream_open_refused},
+    {"stream_push_refused", stream_push_refused},
+    {"stream_read_refused", stream_read_refused},
+    {"stream_state_refused", stream_state_refused},
     {"match", match},
     {"no_match", no_match},
     {"match_refused", match_refused},
@@ -719,6 +978,7 @@ static const struct {
     {"null_bytes", null_bytes},
     {"null_code", null_code},
     {"null_peers", null_peers},
+    {"null_streams", null_streams},
     {"null_seeds", null_seeds},
     {"version", version},
     {"version_of_the_library", version_of_the_library},

@@ -119,6 +119,8 @@ run unused_in_c "$results" unused_answer cc -std=c11
 run unused_in_cxx "$results" unused_answer c++ -std=c++17 -x c++
 "${cxx[@]}" tests/stretch.cpp "$library" -o target/tests/stretch
 run stretch "$results" target/tests/stretch
+"${cxx[@]}" tests/streams.cpp "$library" -o target/tests/streams
+run streams "$results" target/tests/streams
 "${cxx[@]}" tests/seed_arrays.cpp "$library" -o target/tests/seed_arrays
 run seed_arrays "$results" seed_arrays
 pairing=target/agent/release/pairing

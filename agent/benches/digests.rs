@@ -1,6 +1,7 @@
 //! The proved word digest beside Rust loops, the proved byte digest and code beside the word digest
 //! of the same words, those of bytes with the closing one, the peers' digests beside as many word
-//! digests, and what calls of short messages take, each on one input in one run.
+//! digests, a stream beside the word digest, and what calls of short messages and pushes of short
+//! parts take, each on one input in one run.
 //!
 //! Every Rust loop walks once over the message, for all digest words, and tests its words. (a) is a
 //! plain indexed loop. The best loop is the faster of (b) and (c), in which neighbouring digest
@@ -9,7 +10,7 @@
 
 #![forbid(unsafe_code)]
 
-use pairing_agent::{code_bytes, Settings};
+use pairing_agent::{code_bytes, Settings, Stream};
 use std::hint::black_box;
 use std::time::{Duration, Instant};
 
@@ -80,6 +81,20 @@ fn main() {
     }
 
     println!(
+        "\nA stream that is opened, takes {WORDS} words in one push and is read, and the digest of"
+    );
+    println!("the same words.\n");
+    let rows = [32, 16].map(|w| [1, 2, 8].map(|n| StreamRow::measure(w, n)));
+    println!("  w  n      stream      digest    million words/s");
+    for row in rows.iter().flatten() {
+        row.print_times();
+    }
+    println!();
+    for row in rows.iter().flatten() {
+        row.print_ratio();
+    }
+
+    println!(
         "\nShort messages at width 32: the median of {ROUNDS} batches of {BATCH} calls, for one."
     );
     println!("Bytes are as many as the words have; the closing one makes a word more.\n");
@@ -87,6 +102,14 @@ fn main() {
     for words in [0, 1, 16] {
         for n in [1, 2, 4, 8] {
             ShortRow::measure(words, n).print();
+        }
+    }
+
+    println!("\nShort parts pushed at width 32, and a reading: the same medians.\n");
+    println!("  words  n        push     reading");
+    for words in [0, 1, 16] {
+        for n in [1, 8] {
+            PushRow::measure(words, n).print();
         }
     }
 }
@@ -564,6 +587,49 @@ impl PeersRow {
     }
 }
 
+/// A stream of one push and then the word digest of the same words.
+struct StreamRow {
+    w: u32,
+    n: usize,
+    times: [Times; 2],
+}
+
+impl StreamRow {
+    fn measure(w: u32, n: usize) -> StreamRow {
+        let (words, key) = input(w, n);
+        let (mut of_stream, mut of_words) = (vec![0; n], vec![1; n]);
+        let times = race([
+            Box::new(|| {
+                let (first, rest) = key.split_at(n);
+                let mut stream =
+                    Stream::open(&settings(black_box(w), n), first).expect("the input is fit");
+                stream.push(&words, rest).expect("the input is fit");
+                stream
+                    .read_into(black_box(&mut of_stream))
+                    .expect("there is room");
+            }),
+            Box::new(|| library(black_box(w), &words, &key, black_box(&mut of_words))),
+        ]);
+        assert_eq!(of_stream, of_words, "the digests differ");
+        StreamRow { w, n, times }
+    }
+
+    fn print_times(&self) {
+        print_times(self.w, self.n, &self.times);
+    }
+
+    /// The goal is one for the medians, at one digest word and at eight.
+    fn print_ratio(&self) {
+        let of = [&self.times[0], &self.times[1]];
+        print_ratio(self.w, self.n, "stream / digest", of);
+        match ratios(of) {
+            _ if self.n == 2 => println!(),
+            [_, median] if median <= 1.05 => println!("  goal (1.05): met"),
+            _ => println!("  goal (1.05): missed"),
+        }
+    }
+}
+
 /// Calls of a batch: one of a short message is too short for the clock.
 const BATCH: usize = 1_000;
 
@@ -599,14 +665,62 @@ impl ShortRow {
     }
 
     fn print(&self) {
-        print!("{:7} {:2}", self.words, self.n);
-        for times in &self.times {
-            print!(
-                "  {:7.1} ns",
-                times.median.as_secs_f64() * 1e9 / BATCH as f64
-            );
-        }
-        println!();
+        print_short(self.words, self.n, &self.times);
+    }
+}
+
+/// The medians of batches, for one call.
+fn print_short(words: usize, n: usize, times: &[Times]) {
+    print!("{words:7} {n:2}");
+    for times in times {
+        print!(
+            "  {:7.1} ns",
+            times.median.as_secs_f64() * 1e9 / BATCH as f64
+        );
+    }
+    println!();
+}
+
+/// A push of a short part, and a reading.
+struct PushRow {
+    words: usize,
+    n: usize,
+    times: [Times; 2],
+}
+
+impl PushRow {
+    /// A batch of pushes starts from the opened stream, so that it never has too many words.
+    fn measure(words: usize, n: usize) -> PushRow {
+        let (message, key) = input(32, n);
+        let (first, rest) = key.split_at(n);
+        let (message, key) = (&message[..words], &rest[..words]);
+        let opened = Stream::open(&settings(32, n), first).expect("the input is fit");
+        let mut whole = opened.clone();
+        let mut out = vec![0; n];
+        let times = race([
+            Box::new(|| {
+                let mut stream = opened.clone();
+                for _ in 0..BATCH {
+                    black_box(&mut stream)
+                        .push(message, key)
+                        .expect("the input is fit");
+                }
+                whole = stream;
+            }),
+            Box::new(|| {
+                for _ in 0..BATCH {
+                    black_box(&opened)
+                        .read_into(black_box(&mut out))
+                        .expect("there is room");
+                }
+            }),
+        ]);
+        assert_eq!(whole.taken(), BATCH * words, "a push is missing");
+        PushRow { words, n, times }
+    }
+
+    fn print(&self) {
+        print_short(self.words, self.n, &self.times);
     }
 }
 

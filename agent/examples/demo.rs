@@ -1,12 +1,13 @@
 //! A scanner and a depot pair, through the proved library: once as it should go, once with a label
 //! altered on the way, once with a label that is shorter than its key asks for. Then three
-//! scanners pair together, a seed is stretched at several widths, and at last two shares are joined
-//! into a longer seed.
+//! scanners pair together, a seed is stretched at several widths, two shares are joined into a
+//! longer seed, and at last a label is digested in parts.
 
 #![forbid(unsafe_code)]
 
 use pairing_agent::{digest_bytes, digest_peers, digest_words, digests_match};
-use pairing_agent::{load_array, stretch, stretch_array, Refusal, Settings, MOST_SEED_WORDS};
+use pairing_agent::{load_array, stretch, stretch_array};
+use pairing_agent::{Refusal, Settings, Stream, MOST_SEED_WORDS};
 
 /// What both ends have agreed on.
 const SETTINGS: Settings = Settings {
@@ -47,6 +48,12 @@ fn main() {
         "\n6. The ends' shares, joined by xor, are a seed of eight words; a load is made twice"
     );
     for line in shares().expect("the shares are fit") {
+        println!("   {line}");
+    }
+    println!(
+        "\n7. The label in parts, as a stream: each reading is the digest of the words so far"
+    );
+    for line in parts().expect("the parts are fit") {
         println!("   {line}");
     }
 }
@@ -230,6 +237,24 @@ fn joined(own: [u32; MOST_SEED_WORDS], other: [u32; MOST_SEED_WORDS]) -> [u32; M
     std::array::from_fn(|place| own[place] ^ other[place])
 }
 
+/// The label's words, closed, five at a time; then the digest of the whole label.
+fn parts() -> Result<Vec<String>, Refusal> {
+    let message = SETTINGS.closed_words(MESSAGE.as_bytes());
+    let mut key = vec![0; needed(MESSAGE)];
+    stretch(SETTINGS.width, SEED, &mut key)?;
+    let (first, rest) = key.split_at(SETTINGS.words as usize);
+    let mut stream = Stream::open(&SETTINGS, first)?;
+    let mut lines = vec![];
+    for (message, key) in message.chunks(5).zip(rest.chunks(5)) {
+        stream.push(message, key)?;
+        let (taken, digest) = (stream.taken(), stream.read()?);
+        lines.push(format!("after {taken:2} words    {digest}"));
+    }
+    let whole = SETTINGS.digest_bytes(MESSAGE.as_bytes(), &key)?;
+    lines.push(format!("the whole label   {whole}"));
+    Ok(lines)
+}
+
 fn shown(digest: &[u32]) -> String {
     let words: Vec<_> = digest.iter().map(|word| format!("{word:08x}")).collect();
     words.join(" ")
@@ -286,4 +311,15 @@ fn the_shares_make_one_key_and_one_load() {
     assert_eq!(words[2], words[3]);
     // The load's key is the ends' key.
     assert!(words[2].starts_with(&format!("{}, message ", words[0])));
+}
+
+#[test]
+fn the_stream_ends_with_the_whole_labels_digest() {
+    let lines = parts().unwrap();
+    let digests: Vec<_> = lines.iter().map(|line| &line[18..]).collect();
+    let [.., before, last, whole] = digests[..] else {
+        panic!("{lines:?}");
+    };
+    assert_eq!(last, whole);
+    assert_ne!(before, last);
 }

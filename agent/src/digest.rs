@@ -178,7 +178,7 @@ impl Settings {
 
     /// The digest that the call writes. A call that is accepted has 1 to 8 words and leaves the
     /// places beyond them as they were.
-    fn given(
+    pub(crate) fn given(
         &self,
         call: impl FnOnce(&mut [u32]) -> Result<(), Refusal>,
     ) -> Result<Digest, Refusal> {

@@ -58,6 +58,32 @@ mod entry {
             out_words: usize,
         ) -> u32;
 
+        pub fn pairing_stream_open(
+            w: u32,
+            b: u32,
+            n: u32,
+            key: *const u32,
+            key_words: usize,
+            state: *mut u32,
+            state_words: usize,
+        ) -> u32;
+
+        pub fn pairing_stream_push(
+            state: *mut u32,
+            state_words: usize,
+            message: *const u32,
+            message_words: usize,
+            key: *const u32,
+            key_words: usize,
+        ) -> u32;
+
+        pub fn pairing_stream_read(
+            state: *const u32,
+            state_words: usize,
+            out: *mut u32,
+            out_words: usize,
+        ) -> u32;
+
         pub fn pairing_stretch(w: u32, seed: u32, out: *mut u32, out_words: usize) -> u32;
 
         pub fn pairing_stretch_array(
@@ -197,6 +223,47 @@ pub fn digest_peers(
             out.len(),
         )
     }
+}
+
+/// The number that `pairing_stream_open` answers: 0 with the opened state in `state`, or a refusal's.
+#[must_use]
+pub fn stream_open(settings: Settings, key: &[u32], state: &mut [u32]) -> u32 {
+    // SAFETY: each pointer and length is one slice's; `state` is borrowed apart from the key.
+    unsafe {
+        entry::pairing_stream_open(
+            settings.width,
+            settings.kept,
+            settings.words,
+            key.as_ptr(),
+            key.len(),
+            state.as_mut_ptr(),
+            state.len(),
+        )
+    }
+}
+
+/// The number that `pairing_stream_push` answers: 0 with the state after the push in `state`, or a
+/// refusal's.
+#[must_use]
+pub fn stream_push(state: &mut [u32], message: &[u32], key: &[u32]) -> u32 {
+    // SAFETY: each pointer and length is one slice's; `state` is borrowed apart from the others.
+    unsafe {
+        entry::pairing_stream_push(
+            state.as_mut_ptr(),
+            state.len(),
+            message.as_ptr(),
+            message.len(),
+            key.as_ptr(),
+            key.len(),
+        )
+    }
+}
+
+/// The number that `pairing_stream_read` answers: 0 with the digest in `out`, or a refusal's.
+#[must_use]
+pub fn stream_read(state: &[u32], out: &mut [u32]) -> u32 {
+    // SAFETY: each pointer and length is one slice's; `out` is borrowed apart from the state.
+    unsafe { entry::pairing_stream_read(state.as_ptr(), state.len(), out.as_mut_ptr(), out.len()) }
 }
 
 /// The number that `pairing_stretch` answers: 0 with the whole of `out` filled, or a refusal's.

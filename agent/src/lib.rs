@@ -1,7 +1,8 @@
 //! Safe calls into the proved pairing library.
 //!
 //! Nothing is tested here. The library tests every call itself, and its answer decides: each
-//! function turns that number into a `Result`.
+//! function turns that number into a `Result`. A message that comes in parts is digested by a
+//! [`Stream`].
 //!
 //! ```
 //! use pairing_agent::{Digest, Settings};
@@ -49,7 +50,8 @@
 //! Bytes are closed, so the first count holds of different bytes of any lengths: over all keys of
 //! T + n words, where both make at most T words and each is digested under as many first words of
 //! the key as it needs, at most 2^(w·T + n + n·(w−b)) make them agree. Of several peers, each
-//! row is the digest under one peer's key alone, so each peer has these counts.
+//! row is the digest under one peer's key alone, so each peer has these counts. What a stream reads
+//! is the digest of the words that it has taken, however they were cut.
 
 #![deny(unsafe_code)]
 #![deny(missing_docs)]
@@ -61,11 +63,13 @@ mod digest;
 pub mod ffi;
 mod refusal;
 mod settings;
+mod stream;
 
 pub use code::{code_bytes, code_text, MOST_CODE_BYTES, MOST_CODE_DIGITS};
 pub use digest::{Digest, DigestError};
 pub use refusal::Refusal;
 pub use settings::Settings;
+pub use stream::{Stream, STREAM_WORDS};
 
 /// The most words of a message, for bytes counted with the closing byte.
 pub const MOST_MESSAGE_WORDS: usize = 65_536;
@@ -346,8 +350,8 @@ pub fn digests_match(words: u32, first: &[u32], second: &[u32]) -> Result<bool, 
 /// the minor one and the patch. It is this crate's: the build looks, and fails on another.
 ///
 /// ```
-/// // 0.8.0 or later.
-/// assert!(pairing_agent::version() >= 800);
+/// // 0.9.0 or later.
+/// assert!(pairing_agent::version() >= 900);
 /// ```
 #[must_use]
 pub fn version() -> u32 {

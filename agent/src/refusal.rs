@@ -12,9 +12,9 @@ use std::fmt;
 #[repr(u32)]
 // begin: made by tools/answers.py from answers.toml
 pub enum Refusal {
-    /// The state of a stream or generator holds a number outside its range, or something in a place
-    /// not in use. Only calls from Rattle take a state: no C entry, Rust function or command
-    /// answers this.
+    /// The row of a stream's state does not have exactly 21 words, or it holds a number outside its
+    /// range, or something in a place not in use. The state of a generator, which only calls from
+    /// Rattle take, has a position above 624. No command takes a state.
     State = 8,
     /// The width w is not 1 to 32; for bytes, not 8, 16 or 32.
     Width = 1,
@@ -39,7 +39,8 @@ pub enum Refusal {
     /// more words of one kind than of the other.
     Key = 5,
     /// The output has fewer places than the call writes: n, for a code (d+1)/2 bytes rounded down,
-    /// for p peers p times n. In a match: a row does not have exactly n words.
+    /// for p peers p times n, for an opened stream the 21 of its state. In a match: a row does not
+    /// have exactly n words.
     Tray = 6,
     /// A word of the message, or of any key, has more than w bits: it is 2^w or more.
     Word = 7,
@@ -82,7 +83,10 @@ impl Refusal {
     #[must_use]
     pub const fn what_to_do(self) -> &'static str {
         match self {
-            Refusal::State => "throw it away, open a new one and start over",
+            Refusal::State => {
+                "hand in the whole row that the last accepted call left; where it is lost, open a \
+                 new one and start over"
+            }
             Refusal::Width => "set words of 1 to 32 bits, or of 8, 16 or 32 bits to digest bytes",
             Refusal::Digits => {
                 "ask for 1 to 9 digits, fewer at a width below 30, or set a larger width"
@@ -96,8 +100,8 @@ impl Refusal {
                 "give a key that goes with the message; check the word count and pair again"
             }
             Refusal::Tray => {
-                "lend an output with room for the whole digest or code, and match rows of exactly \
-                 the digest's size; check the word count and pair again"
+                "lend an output with room for the whole digest, code or state, and match rows of \
+                 exactly the digest's size; check the word count and pair again"
             }
             Refusal::Word => "check that both ends use one width, and pair again",
         }
@@ -108,9 +112,10 @@ impl Refusal {
     pub const fn given_when(self) -> &'static str {
         match self {
             Refusal::State => {
-                "The state of a stream or generator holds a number outside its range, or something \
-                 in a place not in use. Only calls from Rattle take a state: no C entry, Rust \
-                 function or command answers this."
+                "The row of a stream's state does not have exactly 21 words, or it holds a number \
+                 outside its range, or something in a place not in use. The state of a generator, \
+                 which only calls from Rattle take, has a position above 624. No command takes a \
+                 state."
             }
             Refusal::Width => "The width w is not 1 to 32; for bytes, not 8, 16 or 32.",
             Refusal::Digits => {
@@ -134,8 +139,8 @@ impl Refusal {
             }
             Refusal::Tray => {
                 "The output has fewer places than the call writes: n, for a code (d+1)/2 bytes \
-                 rounded down, for p peers p times n. In a match: a row does not have exactly n \
-                 words."
+                 rounded down, for p peers p times n, for an opened stream the 21 of its state. In \
+                 a match: a row does not have exactly n words."
             }
             Refusal::Word => {
                 "A word of the message, or of any key, has more than w bits: it is 2^w or more."

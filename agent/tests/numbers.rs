@@ -6,8 +6,9 @@
 #![forbid(unsafe_code)]
 
 use pairing_agent::{Refusal, MOST_CODE_BYTES, MOST_CODE_DIGITS, MOST_SEED_WORDS};
+use pairing_agent::{Settings, Stream, STREAM_WORDS};
 use pairing_agent::{MOST_DIGEST_WORDS, MOST_KEY_WORDS, MOST_MESSAGE_WORDS, MOST_PEERS};
-use std::collections::BTreeMap;
+use std::collections::{BTreeMap, BTreeSet};
 use std::process::Command;
 
 const RATTLE: &str = include_str!("../../crates/answers/src/lib.rt");
@@ -145,6 +146,32 @@ fn every_limit_is_the_same() {
     let bytes = number_after(HEADER, "#define PAIRING_MOST_CODE_BYTES");
     assert_eq!(MOST_CODE_BYTES, bytes);
     assert_eq!(digits.div_ceil(2), bytes);
+}
+
+/// One kind of state is not taken for another: their sizes differ. The document's tables of the
+/// answers name the stream's.
+#[test]
+fn every_size_of_a_state_is_its_own() {
+    let names = [
+        "STREAM_WORDS",
+        "INCREMENTAL_WORDS",
+        "PARTS_WORDS",
+        "EXCHANGE_BYTES",
+    ];
+    let sizes = names.map(|name| number_after(HEADER, &format!("#define PAIRING_{name}")));
+    assert_eq!(sizes, [STREAM_WORDS, 12, 268, 2_150]);
+    assert_eq!(BTreeSet::from(sizes).len(), names.len());
+    let settings = Settings {
+        width: 1,
+        kept: 1,
+        words: 1,
+    };
+    let stream = Stream::open(&settings, &[0]).unwrap();
+    assert_eq!(stream.as_words().len(), sizes[0]);
+    for refusal in [Refusal::State, Refusal::Tray] {
+        let size = format!(" {} ", sizes[0]);
+        assert!(refusal.given_when().contains(&size), "{refusal:?}");
+    }
 }
 
 #[test]

@@ -78,6 +78,23 @@ fn digest_peers() {
 }
 
 #[test]
+fn stream_open() {
+    tally(20_250_310, &[0, 1, 2, 3, 5, 6, 7], cases::stream_open);
+}
+
+#[test]
+fn stream_push() {
+    tally(20_250_311, &[0, 4, 5, 7, 8], |random| {
+        cases::stream_push(random, RARE)
+    });
+}
+
+#[test]
+fn stream_read() {
+    tally(20_250_312, &[0, 6, 8], cases::stream_read);
+}
+
+#[test]
 fn stretch() {
     tally(20_250_304, &[0, 1, 4], |random| {
         cases::stretch::<u32>(random, RARE)

@@ -1,5 +1,6 @@
 //! Ten million random calls through the C interface against independent implementations: for
-//! bytes, codes, peers, stretches and loads, others than those that the other tests compare with.
+//! bytes, codes, peers, streams, stretches and loads, others than those that the other tests compare
+//! with.
 //!
 //! Not part of the gate: `make soak` runs it. It stops after ten minutes and says how far it came.
 //! PAIRING_SOAK_CALLS and PAIRING_SOAK_SEED set other numbers.
@@ -11,7 +12,9 @@ mod common;
 use common::calls::{settings, Call, Code, Digest, Load, Peers, Stretch};
 use common::paper::{self, Outcome};
 use common::random::Random;
+use common::stream_calls::{Open, Push, Read};
 use common::{cases, from_environment};
+use pairing_agent::Settings;
 use std::collections::BTreeMap;
 use std::io::IsTerminal;
 use std::time::{Duration, Instant};
@@ -65,11 +68,12 @@ struct Tally {
 
 impl Tally {
     fn make_a_call(&mut self, random: &mut Random) {
-        match random.below(13) {
+        match random.below(16) {
             12 => {
                 let call = cases::peers(random, 8 * RARE);
                 self.make(&call, &peers_due(&call), random);
             }
+            13..=15 => self.make_a_streams_call(random),
             0..=3 => {
                 let call = cases::digest::<u32>(random, RARE);
                 self.make(&call, &call.due(), random);
@@ -86,6 +90,24 @@ impl Tally {
             _ => {
                 let call = cases::digests_match(random);
                 self.make(&call, &call.due(), random);
+            }
+        }
+    }
+
+    /// A call of one of a stream's three entries.
+    fn make_a_streams_call(&mut self, random: &mut Random) {
+        match random.below(3) {
+            0 => {
+                let call = cases::stream_open(random);
+                self.make(&call, &open_due(&call), random);
+            }
+            1 => {
+                let call = cases::stream_push(random, RARE);
+                self.make(&call, &push_due(&call), random);
+            }
+            _ => {
+                let call = cases::stream_read(random);
+                self.make(&call, &read_due(&call), random);
             }
         }
     }
@@ -210,6 +232,93 @@ fn code_due(call: &Code) -> Outcome<u8> {
         out[bytes - 1 - place as usize / 2] += digit * [1, 16][place as usize % 2];
     }
     Outcome { answer: 0, out }
+}
+
+/// What an opening must leave. It is answered as the digest of no words under the same key is, with
+/// room for that where there is room for the state.
+fn open_due(call: &Open) -> Outcome {
+    let Settings { width, kept, words } = call.settings;
+    let places = &[0; 8][..if call.state.len() < 21 { 0 } else { 8 }];
+    let digest = paper::digest_words(call.settings, &[], &call.key, places);
+    if digest.answer != 0 {
+        return refused(digest.answer, &call.state);
+    }
+    let mut out = vec![width, kept, words];
+    out.resize(12, 0);
+    out.extend(&call.key);
+    out.resize(21, 0);
+    out.extend(&call.state[21..]);
+    Outcome { answer: 0, out }
+}
+
+/// Whether a row is a state: settings with which no words have a digest, and at each place a number
+/// below the end of its range.
+fn is_state(row: &[u32]) -> bool {
+    let [width, kept, n, ..] = *row else {
+        return false;
+    };
+    let no_words = paper::digest_words(settings(width, kept, n), &[], &[], &[]);
+    // The key is too short, and it is the first thing that is wrong.
+    if row.len() != 21 || no_words.answer != 5 {
+        return false;
+    }
+    let end_at = |place: usize| match place {
+        0..=2 => u64::MAX,
+        3 => 65_537,
+        4..=11 if place - 4 < n as usize => 2u64.pow(width),
+        12..=19 if place - 12 < n as usize => 2u64.pow(width),
+        _ => 1,
+    };
+    (0..)
+        .zip(row)
+        .all(|(place, word)| u64::from(*word) < end_at(place))
+}
+
+/// What a push must leave: it adds the digest of its words alone, with all bits, under the key
+/// words held and pushed.
+fn push_due(call: &Push) -> Outcome {
+    let Push {
+        state,
+        message,
+        key,
+    } = call;
+    if !is_state(state) {
+        return refused(8, state);
+    }
+    let (width, n) = (state[0], state[2] as usize);
+    if message.len() > 65_536 - state[3] as usize {
+        return refused(4, state);
+    }
+    let key = [&state[12..12 + n], key].concat();
+    let added = paper::digest_words(settings(width, width, n as u32), message, &key, &[0; 8]);
+    if added.answer != 0 {
+        return refused(added.answer, state);
+    }
+    let mut out = state.clone();
+    out[3] += message.len() as u32;
+    for (sum, added) in out[4..12].iter_mut().zip(added.out) {
+        *sum = ((u64::from(*sum) + u64::from(added)) % 2u64.pow(width)) as u32;
+    }
+    out[12..12 + n].copy_from_slice(&key[key.len() - n..]);
+    Outcome { answer: 0, out }
+}
+
+/// What a reading must leave.
+fn read_due(call: &Read) -> Outcome {
+    let Read { state, out } = call;
+    if !is_state(state) {
+        return refused(8, out);
+    }
+    let n = state[2] as usize;
+    if out.len() < n {
+        return refused(6, out);
+    }
+    let digest = state[4..4 + n].iter();
+    let digest = digest.map(|sum| (u64::from(*sum) % 2u64.pow(state[1])) as u32);
+    Outcome {
+        answer: 0,
+        out: digest.chain(out[n..].iter().copied()).collect(),
+    }
 }
 
 /// What the stretch must leave.

@@ -70,7 +70,7 @@ pub struct Made {
 
 impl Made {
     /// `rows` says of each row whether it is as it must be.
-    fn new<P>(answer: u32, due: &Outcome<P>, rows: &[(&str, bool)]) -> Made {
+    pub fn new<P>(answer: u32, due: &Outcome<P>, rows: &[(&str, bool)]) -> Made {
         let answered = [("answer", answer == due.answer)];
         let wrong = answered.iter().chain(rows).filter(|(_, right)| !right);
         Made {
@@ -81,23 +81,23 @@ impl Made {
 }
 
 /// The number that stands for a result.
-fn number_of(result: Result<(), Refusal>) -> u32 {
+pub fn number_of(result: Result<(), Refusal>) -> u32 {
     result.map_or_else(Refusal::number, |()| 0)
 }
 
-fn boxed<P: Place>(row: &[P]) -> Box<[P]> {
+pub fn boxed<P: Place>(row: &[P]) -> Box<[P]> {
     row.into()
 }
 
 /// The rows of a call that digests a message.
-struct Rows<'a, M, O> {
-    message: &'a [M],
-    key: &'a [u32],
-    out: &'a [O],
+pub struct Rows<'a, M, O> {
+    pub message: &'a [M],
+    pub key: &'a [u32],
+    pub out: &'a [O],
 }
 
 impl<M: Place, O: Place> Rows<'_, M, O> {
-    fn number(
+    pub fn number(
         &self,
         due: &Outcome<O>,
         random: &mut Random,
@@ -115,7 +115,7 @@ impl<M: Place, O: Place> Rows<'_, M, O> {
         Made::new(answer, due, &rows)
     }
 
-    fn result(
+    pub fn result(
         &self,
         due: &Outcome<O>,
         call: impl FnOnce(&[M], &[u32], &mut [O]) -> Result<(), Refusal>,
@@ -132,7 +132,7 @@ impl<M: Place, O: Place> Rows<'_, M, O> {
         Made::new(number_of(result), due, &rows)
     }
 
-    fn sizes(&self) -> String {
+    pub fn sizes(&self) -> String {
         format!(
             "message of {}, key of {}, output of {}",
             self.message.len(),

@@ -7,6 +7,8 @@ use super::paper;
 use super::part::Part;
 use super::random::Random;
 use super::seed::Seed;
+use super::stream::STATE_WORDS;
+use super::stream_calls::{Open, Push, Read};
 use pairing_agent::Settings;
 use std::mem::size_of;
 
@@ -232,6 +234,106 @@ pub fn code(random: &mut Random, rare: usize) -> Code {
         key: rows.key,
         out: rows.out.into_iter().map(|word| word as u8).collect(),
     }
+}
+
+/// A call that opens a stream.
+pub fn stream_open(random: &mut Random) -> Open {
+    let faults = Faults::random(random);
+    let fit_width = u32::fit_width(random);
+    let settings = settings::<u32>(random, faults, fit_width);
+    // A count of words that can be lent, whatever the settings say.
+    let n = settings.words.min(20) as usize;
+    let words = key_length(random, faults, [n, n]);
+    let style = random.below(8);
+    let mut key = words_below(random, settings.width, words, style);
+    if faults.once_in(3, random) {
+        spoil(random, settings.width, &mut key);
+    }
+    Open {
+        settings,
+        key,
+        state: output(random, faults, STATE_WORDS),
+    }
+}
+
+/// A call that pushes, onto a state that need not come from any calls.
+pub fn stream_push(random: &mut Random, rare: usize) -> Push {
+    let faults = Faults::random(random);
+    let (mut state, width) = fit_state(random);
+    let left = paper::MOST_WORDS - state[3] as usize;
+    let mut words = message_length::<u32>(random, faults, rare, width);
+    if !faults.once_in(4, random) {
+        words = words.min(left);
+    }
+    let key_words = key_length(random, faults, [words, words]);
+    let style = random.below(8);
+    let mut message = words_below(random, width, words, style);
+    let mut key = words_below(random, width, key_words, style);
+    for row in [&mut message, &mut key] {
+        if faults.once_in(6, random) {
+            spoil(random, width, row);
+        }
+    }
+    damage(random, faults, &mut state);
+    Push {
+        state,
+        message,
+        key,
+    }
+}
+
+/// A call that reads a state that need not come from any calls.
+pub fn stream_read(random: &mut Random) -> Read {
+    let faults = Faults::random(random);
+    let (mut state, _) = fit_state(random);
+    let out = output(random, faults, state[2] as usize);
+    damage(random, faults, &mut state);
+    Read { state, out }
+}
+
+/// A state that is fit, often with almost all words taken, and its width.
+pub fn fit_state(random: &mut Random) -> (Vec<u32>, u32) {
+    let width = u32::fit_width(random);
+    let n = count(random, Faults(false));
+    let taken = match random.below(4) {
+        0 => 0,
+        1 => paper::MOST_WORDS - random.below(40),
+        _ => random.below(paper::MOST_WORDS + 1),
+    };
+    let mut state = vec![0; STATE_WORDS];
+    state[0] = width;
+    state[1] = kept(random, Faults(false), width);
+    state[2] = n;
+    state[3] = taken as u32;
+    for first in [4, 12] {
+        let style = random.below(8);
+        let words = words_below(random, width, n as usize, style);
+        state[first..first + words.len()].copy_from_slice(&words);
+    }
+    (state, width)
+}
+
+/// In a fault alters the state at one place, or makes the row longer or shorter.
+fn damage(random: &mut Random, faults: Faults, state: &mut Vec<u32>) {
+    if faults.once_in(4, random) {
+        alter(random, state);
+    }
+    if faults.once_in(10, random) {
+        let words = other_length(random, STATE_WORDS);
+        state.resize_with(words, || random.word());
+    }
+}
+
+/// Another number at one place of a state, which may still be fit.
+pub fn alter(random: &mut Random, state: &mut [u32]) {
+    let place = random.below(state.len());
+    state[place] = match random.below(6) {
+        0 => 0,
+        1 => random.below(40) as u32,
+        2 => 65_500 + random.below(60) as u32,
+        3 => random.word(),
+        _ => 1 << random.below(32),
+    };
 }
 
 /// What the two kinds of seeds draw each in its own way.

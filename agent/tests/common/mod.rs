@@ -12,6 +12,8 @@ pub mod paper;
 pub mod part;
 pub mod random;
 pub mod seed;
+pub mod stream;
+pub mod stream_calls;
 
 /// Makes each of these functions over a type a test for one type and a test for another.
 #[allow(unused_macros)]

@@ -1,7 +1,7 @@
 -- The first test that holds gives the answer: it stops, or it passes. What a test that passes says of the call.
 use mathlib.Core.Path.{_≡_, refl, sym, ap, subst, _∙_}
 use mathlib.Core.Bool.{Bool, true, false, not, _&&_, _||_, cond, true≢false}
-use mathlib.Core.List.{List, [], _∷_}
+use mathlib.Core.List.{List, [], _∷_, _++_}
 use Prim.Native.Nat.{ℕ, suc, _≤_}
 use native.Mathlib.Omega.{arith}
 use native.Mathlib.Decide.{ℕ-discrete}
@@ -46,6 +46,19 @@ module _ (ts : List Test) {r : ℕ} (j : Validates ts r) (x : ℕ) where
 
   pub later-stands : r ≡ 0 → x ≡ firstOf ts x
   later-stands e = sym (j x ∙ ap (λ (t : Bool). cond t x r) (eq-eqb r 0 e))
+
+-- tests in two lists, one after the other: a refusal by the first stands, else the second decides
+pub first-append : (xs ys : List Test) (a : ℕ) → firstOf (xs ++ ys) a ≡ firstOf xs (firstOf ys a)
+unfolding firstOf
+first-append [] ys a = refl
+first-append (x ∷ xs) ys a = ap (cond (x .holds) (x .number)) (first-append xs ys a)
+
+module _ (xs ys : List Test) {r : ℕ} (j : Validates xs r) where
+  pub first-refuses : (r ≡ 0 → ⊥) → Validates (xs ++ ys) r
+  first-refuses ne later = first-append xs ys later ∙ sym (refusal-stands xs j (firstOf ys later) ne) ∙ sym (rw (ne-eqb r 0 ne))
+
+  pub second-decides : r ≡ 0 → (later : ℕ) {x : ℕ} → firstOf ys later ≡ x → firstOf (xs ++ ys) later ≡ x
+  second-decides e later p = first-append xs ys later ∙ sym (later-stands xs j (firstOf ys later) e) ∙ p
 
 -- Word as the last test, by whether the words fit
 pub word-last : (w : ℕ) (ms ks : List ℕ) {fit : Bool} → fit ≡ (fits w ms && fits w ks) → cond fit 0 7 ≡ firstOf (wordTest w ms ks ∷ []) 0

@@ -31,3 +31,7 @@ noneOf (t ∷ ts) = not (t .holds) && noneOf ts
 -- a lent row after the call: as it was after a refusal, else the written words and then what stood there from that place on
 unfoldable pub afterwards : ℕ → List ℕ → List ℕ → List ℕ
 afterwards answer words old = cond (eqb answer 0) (words ++ drop (length words) old) old
+
+-- a state after the call: the new one, or, after a refusal, the old one, which for an opening is the all-zero one
+abbrev pub stateAfter : {S : Type 0} → ℕ → S → S → S
+stateAfter answer new old = cond (eqb answer 0) new old

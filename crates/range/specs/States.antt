@@ -5,10 +5,10 @@ use Prim.Native.Nat.{ℕ}
 use lib.ListN.{length, take, drop, replicate}
 use Rattle.theory_counts.specs.Words.{fits}
 
--- 8 State, a row of a state: n words below 2^w, and every unused place zero, the only number below 2^0
+-- 8 State, a row of a state, of any length: n words below 2^w, and every unused place zero, the only number below 2^0
 unfoldable pub fitRow : ℕ → ℕ → List ℕ → Bool
 fitRow w n row = fits w (take n row) && fits 0 (drop n row)
 
--- 01, "Stream", "Unused places are zero": a row of a state, eight places with the words first
-unfoldable pub padded : List ℕ → List ℕ
-padded words = words ++ drop (length words) (replicate 8 0)
+-- 01, "Stream", "Unused places are zero": a row of a state of so many places, with the words first
+unfoldable pub padded : ℕ → List ℕ → List ℕ
+padded size words = words ++ drop (length words) (replicate size 0)

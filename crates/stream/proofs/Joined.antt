@@ -1,18 +1,19 @@
 -- The held key words and the pushed ones: how they are joined, what the sums over the joint row give, and the last n of them.
 use mathlib.Core.Path.{_≡_, refl, sym, ap, ap₂, _∙_}
-use mathlib.Core.Bool.{Bool, true, false}
+use mathlib.Core.Bool.{Bool, true, _&&_, and-assoc, and-self}
 use mathlib.Core.List.{List, [], _++_, append-assoc, append-nil}
 use Prim.Native.Nat.{ℕ, _+_, _-_, min, _≤_, _<_}
-use native.Mathlib.Decide.{decLe}
 use native.Mathlib.Omega.{arith}
 use lib.ListN.{length, take, drop, length-append, length-take, length-drop, take-append-drop, drop-of-length-le}
 use lib.Seq.{take-at, drop-at, take-all, drop-drop, drop-append-le, drop-append-add, length-take-le}
 use Rattle.rows.specs.Written.{over}
 use Rattle.rows.proofs.Written.{over-fits}
 use Rattle.rows.proofs.Parts.{part-to-end}
-use Rattle.sum_terms.specs.Sums.{addSums, summable, checkedSums}
-use Rattle.sum_terms.proofs.Summable.{Sums, sums-are}
-use Rattle.sum_terms.proofs.Each.{sums-more, checked-still, checked-sums, checked-append}
+use Rattle.theory_counts.specs.Words.{fits}
+use Rattle.theory_counts.proofs.Fits.{fits-append}
+use Rattle.sum_terms.specs.Sums.{addSums, checkedSums, tests, checkedFit}
+use Rattle.sum_terms.proofs.Summable.{Sums, middle, checked-fit}
+use Rattle.sum_terms.proofs.Each.{sums-more, checked-sums, checked-append}
 use Rattle.stream.specs.State.{lastWords}
 
 -- a row whose first n places and then the next ones are written
@@ -66,13 +67,13 @@ pub held-sums : (w n : ℕ) (held ms ks : List ℕ) → 1 ≤ w → w ≤ 32 →
 held-sums w n held ms ks some narrow one few len same =
     record { some-width = some; width = narrow; some-words = one; words = few; keys = omega (arith, length-append held ks) }
 
--- over a key of fewer than n words the code adds nothing
-cannot-sum : (w n t k : ℕ) → k < n → summable w n t k ≡ false
-cannot-sum w n t k short = go (summable w n t k) refl
-  where
-    go : (can : Bool) → summable w n t k ≡ can → can ≡ false
-    go true e = absurd (omega (arith, sums-are w n t k e))
-    go false e = refl
+-- the first words of a row that fits are among its words
+fits-whole : (w m : ℕ) (ks : List ℕ) → (fits w (take m ks) && fits w ks) ≡ fits w ks
+fits-whole w m ks =
+    let first : Bool = fits w (take m ks) in
+    let rest : Bool = fits w (drop m ks) in
+    let parts : fits w ks ≡ (first && rest) = ap (fits w) (sym (take-append-drop m ks)) ∙ fits-append w (take m ks) (drop m ks) in
+    ap (λ (t : Bool). first && t) parts ∙ sym (and-assoc first first rest) ∙ ap (λ (t : Bool). t && rest) (and-self first) ∙ sym parts
 
 -- the first words of a message over the held key words and as many pushed ones, joined, and the rest over the pushed key
 module _ (w n first : ℕ) (held ms ks : List ℕ) (len : length held ≡ n) (same : length ms ≡ length ks) (most : first ≡ min n (length ks)) (s : Sums w n (length ms) (length (held ++ ks))) (sums : List ℕ) where
@@ -102,28 +103,50 @@ module _ (w n first : ℕ) (held ms ks : List ℕ) (len : length held ≡ n) (sa
       ∙ sym (joined-reads (drop first ks))
       ∙ ap over-key (append-assoc held (take first ks) (drop first ks) ∙ ap (λ (l : List ℕ). held ++ l) (take-append-drop first ks))
 
-  -- the key after the first words is the pushed one, or there are no later words and the pushed key is too short to sum over
-  then-pushed : checkedSums w n (drop first ms) ks (checkedSums w n (take first ms) (held ++ ks) sums) ≡ checkedSums w n ms (held ++ ks) sums
-  then-pushed = go (decLe n (length ks))
-    where
-      go : Dec (n ≤ length ks) → checkedSums w n (drop first ms) ks (checkedSums w n (take first ms) (held ++ ks) sums) ≡ checkedSums w n ms (held ++ ks) sums
-      go (yes many) =
-          let all : length (take first ms) ≡ n = omega (arith, taken) in
-          let after : drop (length (take first ms)) (held ++ ks) ≡ ks = ap (λ (m : ℕ). drop m (held ++ ks)) all ∙ drop-at held ks n len in
-          ap (λ (l : List ℕ). checkedSums w n (drop first ms) l (checkedSums w n (take first ms) (held ++ ks) sums)) (sym after)
-          ∙ checked-append w n (take first ms) (drop first ms) (held ++ ks) sums (rw (take-append-drop first ms) s)
-          ∙ ap (λ (l : List ℕ). checkedSums w n l (held ++ ks) sums) (take-append-drop first ms)
-      go (no few) =
-          sym (checked-still w n (drop first ms) ks (checkedSums w n (take first ms) (held ++ ks) sums) (cannot-sum w n (length (drop first ms)) (length ks) (omega arith)))
-          ∙ ap (λ (l : List ℕ). checkedSums w n l (held ++ ks) sums) (take-all first ms (omega arith))
-
   -- in the parts that the code lends: what it makes of the sums over the joint row, and then of those over the pushed key
+  pub joint-begun : (joint after one : List ℕ) → joint ≡ (held ++ take first ks) ++ after → one ≡ checkedSums w n (take first ms) joint sums → length ks < n → one ≡ checkedSums w n ms (held ++ ks) sums
+  joint-begun joint after one e e₁ short = e₁ ∙ begun joint after e ∙ ap (λ (l : List ℕ). checkedSums w n l (held ++ ks) sums) (take-all first ms (omega arith))
+
   pub joint-sums : (joint after one two : List ℕ)
       → joint ≡ (held ++ take first ks) ++ after
       → one ≡ checkedSums w n (take first ms) joint sums
       → two ≡ checkedSums w n (take (length ms - first) (drop first ms)) ks one
+      → n ≤ length ks
       → two ≡ checkedSums w n ms (held ++ ks) sums
-  joint-sums joint after one two e e₁ e₂ =
+  joint-sums joint after one two e e₁ e₂ many =
+      let all : length (take first ms) ≡ n = omega (arith, taken) in
+      let after-held : drop (length (take first ms)) (held ++ ks) ≡ ks = ap (λ (m : ℕ). drop m (held ++ ks)) all ∙ drop-at held ks n len in
       e₂
       ∙ ap₂ (λ (rest new : List ℕ). checkedSums w n rest ks new) (part-to-end (length ms) first ms refl) (e₁ ∙ begun joint after e)
-      ∙ then-pushed
+      ∙ ap (λ (l : List ℕ). checkedSums w n (drop first ms) l (checkedSums w n (take first ms) (held ++ ks) sums)) (sym after-held)
+      ∙ checked-append w n (take first ms) (drop first ms) (held ++ ks) sums (rw (take-append-drop first ms) s)
+      ∙ ap (λ (l : List ℕ). checkedSums w n l (held ++ ks) sums) (take-append-drop first ms)
+
+  -- the range test over the joint row, and then over the pushed key: of the held words, which fit, nothing is left of it
+  module _ (held-fit : fits w held ≡ true) (joint after : List ℕ) (e : joint ≡ (held ++ take first ks) ++ after) {begun : Bool} (e₁ : begun ≡ checkedFit true w n (take first ms) joint) where
+    begun-fit : begun ≡ (fits w (take first ms) && fits w (take first ks))
+    unfolding tests joined
+    begun-fit =
+        let read : take (length (take first ms) + n) joint ≡ joined = ap (take (length (take first ms) + n)) e ∙ take-at joined after (length (take first ms) + n) (omega (arith, taken, joined-length)) in
+        e₁
+        ∙ checked-fit true w n (take first ms) joint
+        (record { some-width = s .some-width; width = s .width; some-words = s .some-words; words = s .words; keys = rw e (omega (arith, taken, joined-length, length-append joined after)) })
+        ∙ ap (λ (l : List ℕ). fits w (take first ms) && fits w l) read
+        ∙ ap (λ (t : Bool). fits w (take first ms) && t) (fits-append w held (take first ks) ∙ ap (λ (t : Bool). t && fits w (take first ks)) held-fit)
+
+    -- a part that is shorter than the held words
+    pub short-fit : length ks < n → begun ≡ (fits w ms && fits w ks)
+    short-fit short = begun-fit ∙ ap₂ (λ (x y : List ℕ). fits w x && fits w y) (take-all first ms (omega arith)) (take-all first ks (omega arith))
+
+    pub both-fit : {ended : Bool} → n ≤ length ks → ended ≡ checkedFit true w n (take (length ms - first) (drop first ms)) ks → (begun && ended) ≡ (fits w ms && fits w ks)
+    unfolding tests
+    both-fit many e₂ =
+        let rest : List ℕ = drop first ms in
+        let all : length rest + n ≡ length ks = omega (arith, length-drop first ms) in
+        ap₂ (λ (x y : Bool). x && y) begun-fit
+        (e₂
+        ∙ ap (λ (l : List ℕ). checkedFit true w n l ks) (part-to-end (length ms) first ms refl)
+        ∙ checked-fit true w n rest ks (record { some-width = s .some-width; width = s .width; some-words = s .some-words; words = s .words; keys = omega arith })
+        ∙ ap (λ (l : List ℕ). fits w rest && fits w l) (take-all (length rest + n) ks (omega arith)))
+        ∙ middle (fits w (take first ms)) (fits w (take first ks)) (fits w rest) (fits w ks)
+        ∙ ap₂ (λ (x y : Bool). x && y) (sym (fits-append w (take first ms) rest) ∙ ap (fits w) (take-append-drop first ms)) (fits-whole w first ks)

@@ -9,7 +9,7 @@ ghost use Rattle.stream.specs.State.{lastWords};
 // A row of eight places: the words, and zeros after them.
 pub(crate) fn row(words: &[u32]) -> [u32; 8]
     requires { ⌜ length (now words) ≤ 8 ⌝ }
-    ensures { λ r. ⌜ r ≡ padded (now (words .entry)) ⌝ }
+    ensures { λ r. ⌜ r ≡ padded 8 (now (words .entry)) ⌝ }
 {
     let mut places = [0u32; 8];
     rows::copy(&mut places, words);
@@ -32,7 +32,7 @@ pub(crate) fn join(n: usize, held: [u32; 8], key: &[u32]) -> [u32; 16]
 // The last n of the held and then the pushed key words.
 pub(crate) fn last(n: usize, held: [u32; 8], key: &[u32]) -> [u32; 8]
     requires { ⌜ n ≤ 8 ⌝ }
-    ensures { λ r. ⌜ r ≡ padded (lastWords n (take n held ++ now (key .entry))) ⌝ }
+    ensures { λ r. ⌜ r ≡ padded 8 (lastWords n (take n held ++ now (key .entry))) ⌝ }
 {
     let words = key.len();
     if n <= words {

@@ -1,66 +1,52 @@
 // The digest as a stream of words: opened with the first n key words, fed in parts, read at any moment.
 ghost use mathlib.Core.Path.{_≡_};
 ghost use Rattle.stream.specs.Calls.{openAnswer, openState, pushAnswer, pushState, readAnswer, readRow};
+use state_sums::Accumulator;
 
 mod adding;
 mod keys;
-mod validation;
+pub mod validation;
 
-// The settings, the count of words pushed, the last n key words and n full-width sums. Unused places are zero.
+// The settings, the count of words pushed and n full-width sums, and the last n key words. Unused places are zero.
 pub struct Stream {
-    pub width: u32,
-    pub kept: u32,
-    pub n: u32,
-    pub taken: u32,
+    pub held: Accumulator,
     pub keys: [u32; 8],
-    pub sums: [u32; 8],
 }
 
-pub struct Opened {
-    pub answer: u32,
-    pub state: Stream,
-}
-
-pub struct Pushed {
+// What a call gives that takes or makes a state: its answer, and the state after it.
+pub struct Outcome {
     pub answer: u32,
     pub state: Stream,
 }
 
 impl Stream {
     // A stream that has taken no word yet, or the number of the first test that refuses it and the all-zero state.
-    pub fn open(w: u32, b: u32, n: u32, key: &[u32]) -> Opened
+    pub fn open(w: u32, b: u32, n: u32, key: &[u32]) -> Outcome
         ensures { λ r. ⌜
             (r .answer ≡ openAnswer w b n (now (key .entry)))
             × (r .state ≡ openState w b n (now (key .entry)))
             ⌝ }
     {
-        let answer = validation::opening(w, b, n, key);
-        let zeros = [0u32; 8];
+        let answer = validation::opening_with_words(w, b, n, key);
         if answer != 0 {
-            let state = Stream {
-                width: 0,
-                kept: 0,
-                n: 0,
-                taken: 0,
-                keys: zeros,
-                sums: zeros,
+            let keys = [0u32; 8];
+            let held = Accumulator::new(0, 0, 0, 0);
+            return Outcome {
+                answer,
+                state: Stream { held, keys },
             };
-            return Opened { answer, state };
         }
         let keys = keys::row(key);
-        let state = Stream {
-            width: w,
-            kept: b,
-            n,
-            taken: 0,
-            keys,
-            sums: zeros,
-        };
-        Opened { answer, state }
+        let held = Accumulator::new(w, b, n, 0);
+        Outcome {
+            answer,
+            state: Stream { held, keys },
+        }
     }
 
-    // The state with the part's words added, or the number of the first test that refuses and the state as it was.
-    pub fn push(self, message: &[u32], key: &[u32]) -> Pushed
+    // The state with the part's words added, or the number of the first test that refuses and the state as it was. The words
+    // are tested as they are summed; where one does not fit, the sums are dropped.
+    pub fn push(self, message: &[u32], key: &[u32]) -> Outcome
         ensures { λ r. ⌜
             (r .answer ≡ pushAnswer self (now (message .entry)) (now (key .entry)))
             × (r .state ≡ pushState self (now (message .entry)) (now (key .entry)))
@@ -68,13 +54,21 @@ impl Stream {
     {
         let answer = validation::pushing(self, message, key);
         if answer != 0 {
-            return Pushed {
+            return Outcome {
                 answer,
                 state: self,
             };
         }
-        let state = adding::push_fit(self, message, key);
-        Pushed { answer, state }
+        let held = self.keys;
+        let mut sums = self.held.sums;
+        if !adding::add_part(self.held.width, self.held.n, held, message, key, &mut sums) {
+            return Outcome {
+                answer: answers::WORD,
+                state: self,
+            };
+        }
+        let state = adding::pushed(self, sums, message, key);
+        Outcome { answer, state }
     }
 
     // The held sums with b bits kept into the first n places of out, or the number of the first test that refuses.
@@ -88,8 +82,7 @@ impl Stream {
         if answer != 0 {
             return answer;
         }
-        let sums = self.sums;
-        sum_terms::write_kept(self.kept, self.n as usize, sums, out);
+        self.held.read(out);
         0
     }
 }

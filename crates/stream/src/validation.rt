@@ -1,7 +1,8 @@
 // The first test that refuses a call, else 0: one `if` for each row of the table.
 ghost use mathlib.Core.Path.{_≡_};
+ghost use Rattle.answers.specs.Answers.{Validates};
 ghost use Rattle.stream.specs.State.{fitState};
-ghost use Rattle.stream.specs.Calls.{openAnswer, pushAnswer, readAnswer};
+ghost use Rattle.stream.specs.Calls.{openTests, openAnswer, pushTests, readAnswer};
 use crate::Stream;
 use answers::table;
 
@@ -9,42 +10,34 @@ use answers::table;
 fn fit(s: Stream) -> bool
     ensures { λ r. ⌜ r ≡ fitState s ⌝ }
 {
-    if table::bad_width(s.width) {
-        return false;
-    }
-    if table::bad_kept(s.width, s.kept) {
-        return false;
-    }
-    if table::bad_count(s.n) {
-        return false;
-    }
-    if table::too_long(answers::MOST_MESSAGE, s.taken as usize) {
-        return false;
-    }
-    let n = s.n as usize;
     let keys = s.keys;
-    let sums = s.sums;
-    if range::fit_row(s.width, n, &keys) {
-        return range::fit_row(s.width, n, &sums);
+    if s.held.fit(answers::MOST_MESSAGE) {
+        return range::fit_row(s.held.width, s.held.n as usize, &keys);
     }
     false
 }
 
-// Width, Kept, Count, Key, Word.
-pub(crate) fn opening(w: u32, b: u32, n: u32, key: &[u32]) -> u32
-    ensures { λ r. ⌜ r ≡ openAnswer w b n (now (key .entry)) ⌝ }
+// Width, Kept, Count, Key.
+pub fn opening(w: u32, b: u32, n: u32, key: &[u32]) -> u32
+    ensures { λ r. ⌜ Validates (openTests w b n (now (key .entry))) r ⌝ }
 {
-    if table::bad_width(w) {
-        return answers::WIDTH;
-    }
-    if table::bad_kept(w, b) {
-        return answers::KEPT;
-    }
-    if table::bad_count(n) {
-        return answers::COUNT;
+    let answer = state_sums::settings(w, b, n);
+    if answer != 0 {
+        return answer;
     }
     if table::bad_key(n as usize, key.len()) {
         return answers::KEY;
+    }
+    0
+}
+
+// And then Word.
+pub(crate) fn opening_with_words(w: u32, b: u32, n: u32, key: &[u32]) -> u32
+    ensures { λ r. ⌜ r ≡ openAnswer w b n (now (key .entry)) ⌝ }
+{
+    let answer = opening(w, b, n, key);
+    if answer != 0 {
+        return answer;
     }
     if table::bad_words(w, &key[..0], key) {
         return answers::WORD;
@@ -52,21 +45,18 @@ pub(crate) fn opening(w: u32, b: u32, n: u32, key: &[u32]) -> u32
     0
 }
 
-// State, Long, Key, Word.
+// State, Long, Key.
 pub(crate) fn pushing(s: Stream, message: &[u32], key: &[u32]) -> u32
-    ensures { λ r. ⌜ r ≡ pushAnswer s (now (message .entry)) (now (key .entry)) ⌝ }
+    ensures { λ r. ⌜ Validates (pushTests s (now (message .entry)) (now (key .entry))) r ⌝ }
 {
     if !fit(s) {
         return answers::STATE;
     }
-    if table::too_long(answers::MOST_MESSAGE, s.taken as usize + message.len()) {
+    if table::too_long(answers::MOST_MESSAGE, s.held.count as usize + message.len()) {
         return answers::LONG;
     }
     if table::bad_key(message.len(), key.len()) {
         return answers::KEY;
-    }
-    if table::bad_words(s.width, message, key) {
-        return answers::WORD;
     }
     0
 }
@@ -78,7 +68,7 @@ pub(crate) fn reading(s: Stream, out: &[u32]) -> u32
     if !fit(s) {
         return answers::STATE;
     }
-    if table::small_tray(s.n as usize, out.len()) {
+    if table::small_tray(s.held.n as usize, out.len()) {
         return answers::TRAY;
     }
     0

@@ -1,30 +1,31 @@
 -- n sums: their number, each of them, a message in two parts, key words that no sum reads, and the words that are kept of them.
 use mathlib.Core.Path.{_≡_, refl, sym, ap, ap₂, _∙_}
 use mathlib.Core.Bool.{true, false}
-use mathlib.Core.List.{List, [], _∷_, _++_, append-nil, map}
+use mathlib.Core.List.{List, [], _∷_, _++_, map}
 use Prim.Native.Nat.{ℕ, zero, suc, _+_, _%_, _^_, min, _≤_, _<_}
-use native.Mathlib.Nat.{zero-add, add-zero, zero-mod, add-assoc, mod-lt, mod-eq-of-lt, mod-add-mod}
-use native.Mathlib.Decide.{decLe}
+use native.Mathlib.Nat.{zero-add, add-zero, zero-mod, add-assoc, mod-eq-of-lt, mod-add-mod}
 use native.Mathlib.Omega.{arith}
-use borrow.Author.Tests.{ltb-true, lt-ltb}
+use borrow.Author.Tests.{ltb-true}
 use lib.Dec.{ltb}
-use lib.Pow.{pow-pos}
-use lib.ListN.{length, getD, take, drop, replicate, length-take, drop-of-length-le, List·getD-map}
-use lib.Seq.{take-append-le, take-at, drop-at, take-all, drop-drop, getD-take}
+use lib.ListN.{length, getD, take, drop, replicate, length-take, List·getD-map}
+use lib.Seq.{take-append-le, drop-drop, getD-take}
 use Rattle.rows.specs.Written.{written, over}
-use Rattle.rows.proofs.Parts.{drop-one}
-use Rattle.rows.proofs.Written.{tabulate-same, tabulate-all, over-fits, over-written}
+use Rattle.rows.proofs.Written.{tabulate-same, over-fits, over-written}
 use Rattle.theory_counts.specs.Words.{fits}
 use Rattle.theory_digest.specs.Digest.{wholeSum, oneWord, fullWords, kept, digest}
 use Rattle.theory_counts.proofs.Fits.{both}
 use Rattle.theory_digest.proofs.Laws.{sum-append, sum-reads}
 use Rattle.sum_terms.specs.Sums.{addSums, summable, checkedSums}
 use Rattle.sum_terms.proofs.Summable.{Sums, are-sums, first-sums, second-sums}
+use Rattle.sum_terms.proofs.Changes.{changed, first-places, other-places, length-changed, changed-at, changed-fit, changed-written}
+
+pub sums-changed : (w : ℕ) (ms ks sums : List ℕ) → addSums w ms ks sums ≡ changed w (wholeSum w ms) ks sums
+unfolding addSums changed
+sums-changed w ms ks [] = refl
+sums-changed w ms ks (s ∷ sums) = ap (λ (xs : List ℕ). (s + wholeSum w ms ks) % 2 ^ w ∷ xs) (sums-changed w ms (drop 1 ks) sums)
 
 pub length-sums : (w : ℕ) (ms ks sums : List ℕ) → length (addSums w ms ks sums) ≡ length sums
-unfolding addSums
-length-sums w ms ks [] = refl
-length-sums w ms ks (s ∷ sums) = ap suc (length-sums w ms (drop 1 ks) sums)
+length-sums w ms ks sums = rw sums-changed (length-changed w (wholeSum w ms) ks sums)
 
 pub drop-swap : (i j : ℕ) (ks : List ℕ) → drop i (drop j ks) ≡ drop j (drop i ks)
 drop-swap i j ks =
@@ -33,12 +34,7 @@ drop-swap i j ks =
 
 -- each sum has the key from its own place on
 pub sum-at : (w i : ℕ) (ms ks sums : List ℕ) → i < length sums → getD (addSums w ms ks sums) i 0 ≡ (getD sums i 0 + wholeSum w ms (drop i ks)) % 2 ^ w
-unfolding addSums
-sum-at w i ms ks [] lt = absurd (omega arith)
-sum-at w zero ms ks (s ∷ sums) lt = refl
-sum-at w (suc i) ms ks (s ∷ sums) lt =
-    sum-at w i ms (drop 1 ks) sums (omega arith)
-    ∙ ap (λ (l : List ℕ). (getD sums i 0 + wholeSum w ms l) % 2 ^ w) (drop-one i ks)
+sum-at w i ms ks sums lt = rw sums-changed (changed-at w (wholeSum w ms) i ks sums lt)
 
 -- key words after those that the message reaches add nothing
 pub sum-more : (w : ℕ) (ms ks more : List ℕ) → length ms < length ks → wholeSum w ms (ks ++ more) ≡ wholeSum w ms ks
@@ -73,10 +69,7 @@ sums-zero w (suc n) ms ks = ap₂ (λ (x : ℕ) (xs : List ℕ). x % 2 ^ w ∷ x
 
 -- sums that were added to fit
 pub sums-fit : (w : ℕ) (ms ks sums : List ℕ) → fits w (addSums w ms ks sums) ≡ true
-unfolding fits addSums
-sums-fit w ms ks [] = refl
-sums-fit w ms ks (s ∷ sums) =
-    rw (lt-ltb ((s + wholeSum w ms ks) % 2 ^ w) (2 ^ w) (mod-lt (s + wholeSum w ms ks) (pow-pos w))) (sums-fit w ms (drop 1 ks) sums)
+sums-fit w ms ks sums = rw sums-changed (changed-fit w (wholeSum w ms) ks sums)
 
 -- no message adds nothing to sums that fit
 pub sums-none : (w : ℕ) (ks sums : List ℕ) → fits w sums ≡ true → addSums w [] ks sums ≡ sums
@@ -104,20 +97,10 @@ module _ (w n : ℕ) (ms ks sums : List ℕ) where
   long = length-sums w ms ks (take n sums) ∙ length-take n sums
 
   first : take n (addSums w ms ks (take n sums) ++ drop n sums) ≡ addSums w ms ks (take n sums)
-  first = go (decLe n (length sums)) (addSums w ms ks (take n sums)) long
-    where
-      go : Dec (n ≤ length sums) → (new : List ℕ) → length new ≡ min n (length sums) → take n (new ++ drop n sums) ≡ new
-      go (yes few) new l = take-at new (drop n sums) n (omega arith)
-      go (no many) new l = ap (λ (x : List ℕ). take n (new ++ x)) (drop-of-length-le sums {i = n} (omega arith)) ∙ ap (take n) (append-nil new) ∙ take-all n new (omega arith)
+  first = first-places n (addSums w ms ks (take n sums)) sums long
 
   rest : drop n (addSums w ms ks (take n sums) ++ drop n sums) ≡ drop n sums
-  rest = go (decLe n (length sums)) (addSums w ms ks (take n sums)) long
-    where
-      go : Dec (n ≤ length sums) → (new : List ℕ) → length new ≡ min n (length sums) → drop n (new ++ drop n sums) ≡ drop n sums
-      go (yes few) new l = drop-at new (drop n sums) n (omega arith)
-      go (no many) new l =
-          let none : drop n sums ≡ [] = drop-of-length-le sums {i = n} (omega arith) in
-          ap (λ (x : List ℕ). drop n (new ++ x)) none ∙ ap (drop n) (append-nil new) ∙ drop-of-length-le new {i = n} (omega arith) ∙ sym none
+  rest = other-places n (addSums w ms ks (take n sums)) sums long
 
 pub checked-append : (w n : ℕ) (a b ks sums : List ℕ) → Sums w n (length (a ++ b)) (length ks)
     → checkedSums w n b (drop (length a) ks) (checkedSums w n a ks sums) ≡ checkedSums w n (a ++ b) ks sums
@@ -174,18 +157,9 @@ digest-written w b n ms ks sums old s room e =
 pub sums-written : (w n : ℕ) (ms ks sums : List ℕ) → Sums w n (length ms) (length ks)
     → written (λ i. (getD sums i 0 + wholeSum w ms (drop i ks)) % 2 ^ w) (min n (length sums)) sums ≡ checkedSums w n ms ks sums
 sums-written w n ms ks sums s =
-    let few : List ℕ = take n sums in
-    let end : ℕ = min n (length sums) in
-    ap₂ (λ (x y : List ℕ). x ++ y)
-    (tabulate-same (λ i. (getD sums i 0 + wholeSum w ms (drop i ks)) % 2 ^ w) (λ i. getD (addSums w ms ks few) i 0) end
-    (λ i lt. ap (λ (x : ℕ). (x + wholeSum w ms (drop i ks)) % 2 ^ w) (sym (getD-take n sums i 0 (omega arith))) ∙ sym (sum-at w i ms ks few (omega (arith, length-take n sums))))
-    ∙ tabulate-all (addSums w ms ks few) end (long w n ms ks sums))
-    (dropped (decLe n (length sums)))
+    changed-written w (wholeSum w ms) n ks sums
+    ∙ ap (λ (l : List ℕ). l ++ drop n sums) (sym (sums-changed w ms ks (take n sums)))
     ∙ sym (checked-sums w n ms ks sums s)
-  where
-    dropped : Dec (n ≤ length sums) → drop (min n (length sums)) sums ≡ drop n sums
-    dropped (yes few) = let same : min n (length sums) ≡ n = omega arith in ap (λ (m : ℕ). drop m sums) same
-    dropped (no many) = drop-of-length-le sums {i = min n (length sums)} (omega arith) ∙ sym (drop-of-length-le sums {i = n} (omega arith))
 
 -- the kept words as the loop writes them
 pub kept-written : (b n end : ℕ) (sums old : List ℕ) → length sums ≡ 8 → end ≡ min (min n 8) (length old)

@@ -1,2 +1,4 @@
 pub mod Summable
+pub mod Changes
 pub mod Each
+pub mod Orders

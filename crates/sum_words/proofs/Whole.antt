@@ -2,22 +2,21 @@
 use mathlib.Core.Path.{_≡_, refl, sym, ap, ap₂, _∙_}
 use mathlib.Core.Bool.{Bool, true, false, _&&_}
 use mathlib.Core.List.{List, [], _∷_, _++_}
-use Prim.Native.Nat.{ℕ, _+_, _-_, _*_, _/_, _%_, _^_, min, _≤_, _<_}
+use Prim.Native.Nat.{ℕ, _+_, _-_, _%_, _^_, min, _≤_, _<_}
 use native.Mathlib.Nat.{add-assoc, add-mod-mod, mod-add-mod}
 use native.Mathlib.Omega.{arith}
 use borrow.Author.Tests.{lt-ltb}
 use lib.Pow.{pow-pos}
-use lib.ListN.{length, getD, take, drop, take-append-drop}
+use lib.ListN.{length, getD, take, drop, length-drop, take-append-drop}
 use lib.Seq.{take-add, drop-at}
 use Rattle.rows.specs.Written.{tabulate, written}
 use Rattle.rows.proofs.Written.{tabulate-at, tabulate-same, length-tabulate}
 use Rattle.theory_counts.specs.Words.{fits}
 use Rattle.theory_digest.specs.Digest.{wholeSum, oneWord}
 use Rattle.theory_counts.proofs.Fits.{fits-append}
-use Rattle.sum_terms.specs.Sums.{checkedSums, tests, checkedFit}
-use Rattle.sum_walk.specs.Walk.{together, sumAt, added, PartialSums}
-use Rattle.sum_walk.proofs.PartialSum.{word-sum}
-use Rattle.sum_terms.proofs.Summable.{Sums, middle, tests-append, checked-fit}
+use Rattle.sum_terms.specs.Sums.{summable, checkedSums, tests, checkedFit}
+use Rattle.sum_walk.specs.Walk.{sumAt, PartialSums}
+use Rattle.sum_terms.proofs.Summable.{Sums, sums-are, are-sums, middle, tests-append, checked-fit}
 use Rattle.sum_terms.proofs.Each.{drop-swap, sums-written}
 
 -- no last word
@@ -25,13 +24,7 @@ pub none-last : (ms : List ℕ) → length ms ≡ 0 → 0 ≡ getD ms 0 0
 none-last [] none = refl
 none-last (m ∷ ms) none = absurd (omega arith)
 
--- what one word adds, or none, as a sum over the key
 module _ (w : ℕ) where
-  pub one-added : (ms ks : List ℕ) (i : ℕ) → length ms ≡ 1 → added w ks i (getD ms 0 0) ≡ wholeSum w ms (drop i ks)
-  one-added [] ks i one = absurd (omega arith)
-  one-added (m ∷ []) ks i one = word-sum w m ks i
-  one-added (m ∷ m′ ∷ ms) ks i one = absurd (omega arith)
-
   -- the range test of an odd last word, or of none
   last-tests : (asked : Bool) (ms : List ℕ) → length ms ≤ 1 → tests asked w (getD ms 0 0 ∷ []) ≡ tests asked w ms
   unfolding tests fits
@@ -45,10 +38,18 @@ module _ (w : ℕ) where
       → fit ≡ (tests asked w ms && fits w ks)
   last-fit asked ms ks last fit few is e = e ∙ ap (λ (t : Bool). t && fits w ks) (ap (λ (m : ℕ). tests asked w (m ∷ [])) is ∙ last-tests asked ms few)
 
+  -- what no word adds, or one, as a sum over the key
   pub none-added : (ms ks : List ℕ) → length ms ≡ 0 → 0 ≡ wholeSum w ms ks
   unfolding wholeSum
   none-added [] ks none = refl
   none-added (m ∷ ms) ks none = absurd (omega arith)
+
+  pub one-added : (n : ℕ) (ms ks old new : List ℕ) → length ms ≡ 1 → summable w n (length ms) (length ks) ≡ true
+      → new ≡ checkedSums w n (getD ms 0 0 ∷ []) ks old
+      → new ≡ written (λ i. (getD old i 0 + wholeSum w ms (drop i ks)) % 2 ^ w) (min n (length old)) old
+  one-added n [] ks old new one can e = absurd (omega arith)
+  one-added n (m ∷ []) ks old new one can e = e ∙ sym (sums-written w n (m ∷ []) ks old (sums-are w n 1 (length ks) can))
+  one-added n (m ∷ m′ ∷ ms) ks old new one can e = absurd (omega arith)
 
   -- sums that agree modulo 2^w are written alike
   pub totals-same : (n : ℕ) (f g : ℕ → ℕ) (old new : List ℕ) → ((i : ℕ) → i < n → f i % 2 ^ w ≡ g i % 2 ^ w)
@@ -59,12 +60,6 @@ module _ (w : ℕ) where
       ∙ ap (λ (l : List ℕ). l ++ drop n old)
       (tabulate-same (λ i. (getD old i 0 + f i) % 2 ^ w) (λ i. (getD old i 0 + g i) % 2 ^ w) n
       (λ i lt. sym (add-mod-mod (getD old i 0) (f i) (2 ^ w)) ∙ ap (λ (x : ℕ). (getD old i 0 + x) % 2 ^ w) (same i lt) ∙ add-mod-mod (getD old i 0) (g i) (2 ^ w)))
-
--- a sum with the two products of a word
-pub product-added : (w s s₀ r low high m i : ℕ) (part : List ℕ) → s ≡ s₀ → low ≡ m * getD part i 0 → high ≡ m * getD part (i + 1) 0
-    → r ≡ (s + together w low high) % 2 ^ w
-    → r ≡ (s₀ + added w part i m) % 2 ^ w
-product-added w s s₀ r low high m i part es el eh e = e ∙ ap₂ (λ (x y : ℕ). (x + y) % 2 ^ w) es (ap₂ (λ (x y : ℕ). x + y / 2 ^ w) el eh)
 
 -- sums that are added to twice
 pub added-twice : (w k k′ : ℕ) (f g : ℕ → ℕ) (old mid new : List ℕ) → k ≤ length old → k′ ≡ k
@@ -84,6 +79,12 @@ added-twice w k k′ f g old mid new le same first second =
     (ap₂ (λ (m : ℕ) (l : List ℕ). drop m l) same first ∙ drop-at (tabulate F k) (drop k old) k (length-tabulate F k))
 
 module _ (w n : ℕ) (ms ks : List ℕ) (s : Sums w n (length ms) (length ks)) where
+  -- there are key words for the words that the walk left
+  pub left-sums : (done : ℕ) → done ≤ length ms → summable w n (length (drop done ms)) (length (drop done ks)) ≡ true
+  left-sums done le =
+      are-sums w n (length (drop done ms)) (length (drop done ks))
+      (record { some-width = s .some-width; width = s .width; some-words = s .some-words; words = s .words; keys = omega (arith, s .keys, length-drop done ms, length-drop done ks) })
+
   -- the sums of the walk and of the words that it left
   pub whole-sums : (low high old new left rest : List ℕ) (done : ℕ) → left ≡ drop done ms → rest ≡ drop done ks → PartialSums w n ms ks low high done
       → new ≡ written (λ i. (getD old i 0 + (sumAt w low high i + wholeSum w left (drop i rest))) % 2 ^ w) (min n (length old)) old

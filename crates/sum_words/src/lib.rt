@@ -1,11 +1,12 @@
 // n sums of one message, each under the lent key from one word further on: the walk, an odd last word, the key's last words.
 ghost use mathlib.Core.Path.{_≡_};
-ghost use Prim.Native.Nat.{_+_, _%_, _^_, min, _≤_, _<_};
+ghost use mathlib.Core.Bool.{true};
+ghost use Prim.Native.Nat.{_+_, _%_, _^_, min, _≤_};
 ghost use lib.ListN.{length, getD, drop};
 ghost use Rattle.rows.specs.Written.{written};
 ghost use Rattle.theory_digest.specs.Digest.{wholeSum};
-ghost use Rattle.sum_terms.specs.Sums.{checkedSums, checkedFit};
-ghost use Rattle.sum_walk.specs.Walk.{together, sumAt, added};
+ghost use Rattle.sum_terms.specs.Sums.{summable, checkedSums, checkedFit};
+ghost use Rattle.sum_walk.specs.Walk.{together, sumAt};
 
 // Adds to the first n of the sums what the message adds, and answers whether the words that it reads fit: those of the
 // message where it is tested, and of the key. Where the settings or the key do not suffice, it adds nothing and answers false.
@@ -30,7 +31,7 @@ pub fn add_sums(
     let low = walked.low;
     let high = walked.high;
     let done = message.len() / 2 * 2;
-    let last = finish(w, words, low, high, &message[done..], &key[done..], sums);
+    let last = finish(w, n, low, high, &message[done..], &key[done..], sums);
     if !range::below(w, walked.bits) {
         return false;
     }
@@ -41,48 +42,27 @@ pub fn add_sums(
 // here by a number that the compiler does not know, the walk's own would have to stand in memory.
 fn finish(
     w: u32,
-    n: usize,
+    n: u32,
     low: [u64; 8],
     high: [u64; 8],
     message: &[u32],
     key: &[u32],
     sums: &mut [u32],
 ) -> u32
-    requires { ⌜ (w ≤ 32) × (n ≤ 8) × (length (now message) ≤ 1) × (length (now message) + n ≤ length (now key)) ⌝ }
+    requires { ⌜ (length (now message) ≤ 1) × (summable w n (length (now message)) (length (now key)) ≡ true) ⌝ }
     ensures { λ r. ⌜
         (r ≡ getD (now (message .entry)) 0 0)
         × (now (sums .exit)
         ≡ written (λ i. (getD (now (sums .entry)) i 0 + (sumAt w low high i + wholeSum w (now (message .entry)) (drop i (now (key .entry))))) % 2 ^ w) (min n (length (now (sums .entry)))) (now (sums .entry)))
         ⌝ }
 {
-    add_totals(w, n, low, high, sums);
+    add_totals(w, n as usize, low, high, sums);
     if message.len() == 1 {
         let last = message[0];
-        add_last(w, n, last, key, sums);
+        sum_edits::add_word(w, n, last, key, sums);
         return last;
     }
     0
-}
-
-// The held sums with one message word, each under its own word of the key's part.
-fn add_last(w: u32, n: usize, m: u32, part: &[u32], sums: &mut [u32])
-    requires { ⌜ (w ≤ 32) × (n < length (now part)) ⌝ }
-    ensures { λ _. ⌜
-        now (sums .exit)
-        ≡ written (λ i. (getD (now (sums .entry)) i 0 + added w (now (part .entry)) i m) % 2 ^ w) (min n (length (now (sums .entry)))) (now (sums .entry))
-        ⌝ }
-{
-    let places = rows::lesser(n, sums.len());
-    let mut i = 0;
-    while i < places {
-        sums[i] = total(
-            w,
-            sums[i],
-            sum_terms::product(m, part[i]),
-            sum_terms::product(m, part[i + 1]),
-        );
-        i += 1;
-    }
 }
 
 // The held sums with those of the walk.

@@ -24,7 +24,8 @@ use Rattle.digest_words.specs.Call.{digestAnswer, digestRow, digestTests}
 use Rattle.digest_code.specs.Code.{codeNumber, digits, evened, packPairs, packed, code}
 use Rattle.digest_code.specs.Call.{codeAnswer, codeRow, codeTests}
 use Rattle.stream.specs.State.{fitState, lastWords, pushed, opened, noStream}
-use Rattle.stream.specs.Calls.{openAnswer, openState, pushAnswer, pushState, readAnswer, reading, readRow}
+use Rattle.state_sums.specs.State.{settingsTests, fitSums, begun, updated, reading}
+use Rattle.stream.specs.Calls.{openTests, openAnswer, openState, pushTests, pushAnswer, pushState, readAnswer, readRow}
 use Rattle.mt19937.specs.Published.{following, newWord, newWords, seeded}
 use Rattle.theory_cases.specs.Cases.{Case, case, called, cases, EveryLetter, EveryCase}
 
@@ -43,5 +44,5 @@ unfolding EveryLetter cases
 every-letter = refl
 
 pub every-case : EveryCase
-unfolding EveryCase agree cases called openAnswer openState pushAnswer pushState readAnswer reading readRow padded fitState addSums lastWords pushed opened noStream wordsOf closed inWords wordsFrom countOf littleEndian seeded newWords tabulate newWord following digestTests digestAnswer digestRow codeTests codeAnswer codeRow codeNumber digits evened packPairs packed code firstOf noneOf badWidth badKept badCount badWords badDigits fitRow afterwards fits wholeSum oneWord fullWords kept digest sumTo overRows asNumber count sameRow every differBy keysThatDiffer keysThatGive
+unfolding EveryCase agree cases called settingsTests fitSums begun updated openTests openAnswer openState pushTests pushAnswer pushState readAnswer reading readRow padded fitState addSums lastWords pushed opened noStream wordsOf closed inWords wordsFrom countOf littleEndian seeded newWords tabulate newWord following digestTests digestAnswer digestRow codeTests codeAnswer codeRow codeNumber digits evened packPairs packed code firstOf noneOf badWidth badKept badCount badWords badDigits fitRow afterwards fits wholeSum oneWord fullWords kept digest sumTo overRows asNumber count sameRow every differBy keysThatDiffer keysThatGive
 every-case = agree-at cases tt

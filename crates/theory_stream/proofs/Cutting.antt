@@ -18,13 +18,15 @@ use Rattle.sum_terms.proofs.Each.{sums-zero, length-full}
 use Rattle.digest_words.specs.Call.{digestAnswer, digestRow, digestTests}
 use Rattle.stream.specs.declared.Stream.{Stream}
 use Rattle.range.specs.States.{padded}
-use Rattle.stream.specs.State.{heldKeys, heldSums, lastWords, pushed, opened}
-use Rattle.stream.specs.Calls.{openAnswer, openState, pushAnswer, pushState, readAnswer, reading, readRow}
+use Rattle.state_sums.specs.State.{heldSums, begun, updated, reading}
+use Rattle.state_sums.proofs.Shared.{begun-good, begun-held}
+use Rattle.stream.specs.State.{fitState, heldKeys, lastWords, pushed, opened}
+use Rattle.stream.specs.Calls.{openAnswer, openState, pushAnswer, pushState, readAnswer, readRow}
 use Rattle.theory_stream.specs.Cutting.{Part, messageOf, keyOf, afterParts, partAnswers, FitPart, FitParts, wholeState, Whole, EveryCutting, EmptyPush, EveryState}
 use Rattle.stream.proofs.Valid.{fit, fit-state, Takes, taken, Opens, opens}
 use Rattle.answers.proofs.States.{new-state}
-use Rattle.range.proofs.States.{same-zeros, zeros-row, padded-length, padded-held, padded-row}
-use Rattle.stream.proofs.Pushes.{Good, pushed-good, pushed-none, pushed-twice}
+use Rattle.range.proofs.States.{padded-length, padded-held, padded-row}
+use Rattle.stream.proofs.Pushes.{Good, good-fit, pushed-good, pushed-none, pushed-twice}
 
 -- the parts' words, all together, are a fit part
 joined-fit : (w : ℕ) (ps : List Part) → FitParts w ps → FitPart w (record { message = messageOf ps; key = keyOf ps })
@@ -44,15 +46,20 @@ joined-fit w (p ∷ ps) h = join (h .0) (joined-fit w ps (h .1))
               (fits-append w (p .key) (keyOf ps) ∙ ap₂ (λ (x y : Bool). x && y) (f′ .1) (g′ .1));
         }
 
+takes-from : (s : Stream) → Good s → (ms ks : List ℕ) → s .held .count + length ms ≤ 65536 → length ks ≡ length ms → fits (s .held .width) ms ≡ true → fits (s .held .width) ks ≡ true → Takes s ms ks
+takes-from s good ms ks room words message key = record { ready = record { state = good-fit s good; room = room; words = words }; message = message; key = key }
+
+good-from : (s : Stream) → fitState s ≡ true → length (s .keys) ≡ 8 → length (s .held .sums) ≡ 8 → Good s
+good-from s f keys-eight sums-eight = let h = fit s f in record { held = record { fit = h .held; eight = sums-eight }; keys = h .keys; keys-eight = keys-eight }
+
 -- the parts, pushed one after the other, and all their words in one push
-push-parts : (s : Stream) (ps : List Part) → Good s → FitParts (s .width) ps → s .taken + length (messageOf ps) ≤ 65536
+push-parts : (s : Stream) (ps : List Part) → Good s → FitParts (s .held .width) ps → s .held .count + length (messageOf ps) ≤ 65536
     → (partAnswers s ps ≡ replicate (length ps) 0) × (afterParts s ps ≡ pushed s (messageOf ps) (keyOf ps))
-unfolding FitParts messageOf keyOf afterParts partAnswers pushState pushed
+unfolding FitParts messageOf keyOf afterParts partAnswers pushState pushed updated
 push-parts s [] good h room = (refl, sym (pushed-none s good))
 push-parts s (p ∷ ps) good h room =
-    let fits-both = both (fits (s .width) (p .message)) (fits (s .width) (p .key)) (h .0 .fit) in
-    let t : Takes s (p .message) (p .key) =
-    record { state = good .fit; room = omega (arith, length-append (p .message) (messageOf ps)); words = h .0 .words; message = fits-both .0; key = fits-both .1 } in
+    let fits-both = both (fits (s .held .width) (p .message)) (fits (s .held .width) (p .key)) (h .0 .fit) in
+    let t : Takes s (p .message) (p .key) = takes-from s good (p .message) (p .key) (omega (arith, length-append (p .message) (messageOf ps))) (h .0 .words) (fits-both .0) (fits-both .1) in
     let none = taken s (p .message) (p .key) t in
     let next : pushState s (p .message) (p .key) ≡ pushed s (p .message) (p .key) = new-state (pushAnswer s (p .message) (p .key)) (pushed s (p .message) (p .key)) s none in
     let rest = push-parts (pushed s (p .message) (p .key)) ps (pushed-good s good (p .message) (p .key) t) (h .1) (omega (arith, length-append (p .message) (messageOf ps))) in (
@@ -62,13 +69,13 @@ push-parts s (p ∷ ps) good h room =
 
 pub every-state : EveryState
 unfolding EveryState
-every-state s ps f keys-eight sums-eight h room = push-parts s ps (record { fit = fit s f; keys-eight = keys-eight; sums-eight = sums-eight }) h room
+every-state s ps f keys-eight sums-eight h room = push-parts s ps (good-from s f keys-eight sums-eight) h room
 
 pub empty-push : EmptyPush
 unfolding EmptyPush pushState fits
 empty-push s f keys-eight sums-eight =
-    let good : Good s = record { fit = fit s f; keys-eight = keys-eight; sums-eight = sums-eight } in
-    let t : Takes s [] [] = record { state = good .fit; room = omega (arith, good .fit .count); words = refl; message = refl; key = refl } in
+    let good : Good s = good-from s f keys-eight sums-eight in
+    let t : Takes s [] [] = takes-from s good [] [] (omega (arith, good .held .fit .count)) refl refl refl in
     let none = taken s [] [] t in
     (none, new-state (pushAnswer s [] []) (pushed s [] []) s none ∙ pushed-none s good)
 
@@ -77,55 +84,45 @@ module _ (w b n : ℕ) (ks : List ℕ) (o : Opens w b n ks) where
   few = o .settings .words
 
   opened-good : Good (opened w b n ks)
-  unfolding opened
+  unfolding opened begun
   opened-good =
       record {
-        fit =
-            record {
-              settings = o .settings;
-              count = omega arith;
-              keys = padded-row n ks (o .words) few w (o .fit);
-              sums = zeros-row w n 8;
-            };
-        keys-eight = padded-length n ks (o .words) few;
-        sums-eight = refl;
+        held = begun-good 65536 w b n 0 (o .settings) (omega arith);
+        keys = padded-row 8 n ks (o .words) few w (o .fit);
+        keys-eight = padded-length 8 n ks (o .words) few;
       }
 
   opened-keys : heldKeys (opened w b n ks) ≡ ks
-  unfolding opened
-  opened-keys = padded-held n ks (o .words) few
+  unfolding opened begun
+  opened-keys = padded-held 8 n ks (o .words) few
 
-  opened-sums : heldSums (opened w b n ks) ≡ replicate n 0
+  opened-sums : heldSums (opened w b n ks .held) ≡ replicate n 0
   unfolding opened
-  opened-sums =
-      same-zeros (take n (replicate 8 0)) (replicate n 0)
-      (length-take-le n (replicate 8 0) few ∙ sym (length-replicate n 0))
-      (fits-parts 0 n (replicate 8 0) (fits-zeros 0 8) .0)
-      (fits-zeros 0 n)
+  opened-sums = begun-held 65536 w b n 0 (o .settings)
 
   -- all words in one push on an opened stream
   pushed-opened : (ms more : List ℕ) → pushed (opened w b n ks) ms more ≡ wholeState w b n ms (ks ++ more)
-  unfolding pushed opened wholeState
+  unfolding pushed opened begun updated wholeState
   pushed-opened ms more =
       ap₂ {C = Stream}
-      (λ (held sums : List ℕ). record { width = w; kept = b; n = n; taken = 0 + length ms; keys = padded (lastWords n (held ++ more)); sums = padded (addSums w ms (held ++ more) sums) })
+      (λ (held sums : List ℕ). record { held = record { width = w; kept = b; n = n; count = 0 + length ms; sums = padded 8 (addSums w ms (held ++ more) sums) }; keys = padded 8 (lastWords n (held ++ more)) })
       opened-keys opened-sums
-      ∙ ap₂ {C = Stream} (λ (t : ℕ) (sums : List ℕ). record { width = w; kept = b; n = n; taken = t; keys = padded (lastWords n (ks ++ more)); sums = padded sums })
+      ∙ ap₂ {C = Stream} (λ (t : ℕ) (sums : List ℕ). record { held = record { width = w; kept = b; n = n; count = t; sums = padded 8 sums }; keys = padded 8 (lastWords n (ks ++ more)) })
       (zero-add (length ms)) (sums-zero w n ms (ks ++ more))
 
   module _ (ms ks′ : List ℕ) (long : length ms ≤ 65536) (words : length ks′ ≡ length ms + n) (message : fits w ms ≡ true) (key : fits w ks′ ≡ true) (s : Stream) (good : Good s) (e : s ≡ wholeState w b n ms ks′) where
-    whole-words : reading s ≡ digest w b n ms ks′
+    whole-words : reading (s .held) ≡ digest w b n ms ks′
     unfolding reading digest wholeState
-    whole-words = ap reading e ∙ ap (map (kept b)) (padded-held n (fullWords w n ms ks′) (length-full w n ms ks′) few)
+    whole-words = ap (λ (s : Stream). reading (s .held)) e ∙ ap (map (kept b)) (padded-held 8 n (fullWords w n ms ks′) (length-full w n ms ks′) few)
 
     -- of both calls only Tray is left to hold
     whole-answer : (out : List ℕ) → readAnswer s out ≡ digestAnswer w b n ms ks′ out
     unfolding readAnswer digestTests digestAnswer wholeState firstOf
     whole-answer out =
         let r = o .settings in
-        let count : s .n ≡ n = ap (λ (s : Stream). s .n) e in
+        let count : s .held .n ≡ n = ap (λ (s : Stream). s .held .n) e in
         rw (
-          fit-state s (good .fit),
+          fit-state s (good-fit s good),
           count,
           width-passes w (r .some-width) (r .width),
           kept-passes w b (r .some-kept) (r .kept),
@@ -140,7 +137,7 @@ module _ (w b n : ℕ) (ks : List ℕ) (o : Opens w b n ks) where
     whole-row out = ap₂ (λ (a : ℕ) (l : List ℕ). afterwards a l out) (whole-answer out) whole-words
 
 opened-whole : (w b n : ℕ) (ks : List ℕ) (ps : List Part) → Opens w b n ks → FitParts w ps → length (messageOf ps) ≤ 65536 → Whole w b n (opened w b n ks) ps (messageOf ps) (ks ++ keyOf ps)
-unfolding opened
+unfolding opened begun
 opened-whole w b n ks ps o h long =
     let ms = messageOf ps in
     let more = keyOf ps in
@@ -150,7 +147,7 @@ opened-whole w b n ks ps o h long =
     let all = joined-fit w ps h in
     let both-fit = both (fits w ms) (fits w more) (all .fit) in
     let pushes = push-parts s ps good h room in
-    let t : Takes s ms more = record { state = good .fit; room = room; words = all .words; message = both-fit .0; key = both-fit .1 } in
+    let t : Takes s ms more = takes-from s good ms more room (all .words) (both-fit .0) (both-fit .1) in
     let words : length (ks ++ more) ≡ length ms + n = omega (arith, length-append ks more, o .words, all .words) in
     let key : fits w (ks ++ more) ≡ true = fits-append w ks more ∙ ap₂ (λ (x y : Bool). x && y) (o .fit) (both-fit .1) in
     let end : Good (afterParts s ps) = subst Good (sym (pushes .1)) (pushed-good s good ms more t) in

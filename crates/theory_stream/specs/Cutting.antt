@@ -9,8 +9,9 @@ use Rattle.theory_digest.specs.Digest.{fullWords, digest}
 use Rattle.digest_words.specs.Call.{digestAnswer, digestRow}
 use Rattle.stream.specs.declared.Stream.{Stream}
 use Rattle.range.specs.States.{padded}
+use Rattle.state_sums.specs.State.{reading}
 use Rattle.stream.specs.State.{fitState, lastWords, pushed}
-use Rattle.stream.specs.Calls.{openAnswer, openState, pushAnswer, pushState, readAnswer, reading, readRow}
+use Rattle.stream.specs.Calls.{openAnswer, openState, pushAnswer, pushState, readAnswer, readRow}
 
 -- 01, "Stream": what one push gives
 pub record Part : Type 0 where
@@ -47,13 +48,16 @@ FitParts w (p ∷ ps) = FitPart w p × FitParts w ps
 -- a stream that has taken the message under the key: its count, the key's last n words, the full-width sums
 unfoldable pub wholeState : ℕ → ℕ → ℕ → List ℕ → List ℕ → Stream
 wholeState w b n ms ks =
-    record { width = w; kept = b; n = n; taken = length ms; keys = padded (lastWords n ks); sums = padded (fullWords w n ms ks) }
+    record {
+      held = record { width = w; kept = b; n = n; count = length ms; sums = padded 8 (fullWords w n ms ks) };
+      keys = padded 8 (lastWords n ks);
+    }
 
 -- an opened stream s after some parts, with ms and ks the words so far
 pub record Whole (w b n : ℕ) (s : Stream) (ps : List Part) (ms ks : List ℕ) : Type 0 where
   pub answers : partAnswers s ps ≡ replicate (length ps) 0
   pub state : afterParts s ps ≡ wholeState w b n ms ks
-  pub words : reading (afterParts s ps) ≡ digest w b n ms ks
+  pub words : reading (afterParts s ps .held) ≡ digest w b n ms ks
   pub answer : (out : List ℕ) → readAnswer (afterParts s ps) out ≡ digestAnswer w b n ms ks out
   pub row : (out : List ℕ) → readRow (afterParts s ps) out ≡ digestRow w b n ms ks out
 
@@ -72,7 +76,7 @@ EmptyPush =
     (s : Stream)
     → fitState s ≡ true
     → length (s .keys) ≡ 8
-    → length (s .sums) ≡ 8
+    → length (s .held .sums) ≡ 8
     → (pushAnswer s [] [] ≡ 0) × (pushState s [] [] ≡ s)
 
 -- a cutting on every fit state, however it came about: the parts give what one push of all their words gives
@@ -81,7 +85,7 @@ EveryState =
     (s : Stream) (ps : List Part)
     → fitState s ≡ true
     → length (s .keys) ≡ 8
-    → length (s .sums) ≡ 8
-    → FitParts (s .width) ps
-    → s .taken + length (messageOf ps) ≤ 65536
+    → length (s .held .sums) ≡ 8
+    → FitParts (s .held .width) ps
+    → s .held .count + length (messageOf ps) ≤ 65536
     → (partAnswers s ps ≡ replicate (length ps) 0) × (afterParts s ps ≡ pushed s (messageOf ps) (keyOf ps))

@@ -10,7 +10,7 @@ use Rattle.sum_walk.specs.Walk.{evenLength}
 use Rattle.sum_terms.specs.Sums.{summable}
 use Rattle.sum_terms.proofs.Summable.{Sums, sums-are, checked-unfit}
 use Rattle.sum_terms.proofs.Each.{checked-still}
-use Rattle.sum_words.proofs.Whole.{last-fit, whole-sums, walk-unfit, walk-fit}
+use Rattle.sum_words.proofs.Whole.{last-fit, left-sums, whole-sums, walk-unfit, walk-fit}
 use borrow.Author.Needs.{needs}
 use Rattle.sum_words.proofs.add_sums.Statement.{statement}
 use Rattle.sum_words.proofs.add_sums.Tie as tie
@@ -67,10 +67,8 @@ finish-requires c κs =
     let ms = a .message .now in
     let ks = a .key .now in
     let done = evenLength ms in (
-      s .width,
-      s .words,
       rw (part-to-end _ done ms refl, length-drop done ms) (omega arith),
-      rw (part-to-end _ done ms refl, part-to-end _ done ks refl, length-drop done ms, length-drop done ks) (omega (arith, s .keys)),
+      rw (part-to-end _ done ms refl, part-to-end _ done ks refl) (left-sums (a .w) (a .n) ms ks s done (omega arith)),
     )
 
 below-requires : tie.Need-below-requires

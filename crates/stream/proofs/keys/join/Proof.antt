@@ -16,7 +16,7 @@ array-share-prefix-held : tie.Need-array-share-prefix-held
 array-share-prefix-held c = search needs
 
 slice-aggregate-copy-2 : tie.Need-slice-aggregate-copy-2
-slice-aggregate-copy-2 c = let a = c .before .before .before .args in sym (held-length (a .n) (a .t2) (omega arith) (search needs))
+slice-aggregate-copy-2 c = let a = c .before .before .before .args in sym (held-length 8 (a .n) (a .t2) (omega arith) (search needs))
 
 copy-requires : tie.Need-copy-requires
 copy-requires c κs = search needs
@@ -40,7 +40,7 @@ returns : tie.Need-returns
 returns c =
     let first = c .before .before .before .before in
     let a = first .before .before .before .before .args in
-    two-copies (a .n) (16 - a .n) (take (a .n) (a .t2)) (a .key .now) (replicate 16 0) _ _ (held-length (a .n) (a .t2) (omega arith) (search needs)) (omega arith) (omega arith) (first .copy .ensures) (c .before .copy2 .ensures)
+    two-copies (a .n) (16 - a .n) (take (a .n) (a .t2)) (a .key .now) (replicate 16 0) _ _ (held-length 8 (a .n) (a .t2) (omega arith) (search needs)) (omega arith) (omega arith) (first .copy .ensures) (c .before .copy2 .ensures)
 
 pub join-spec : {M : Type 1} → statement M
 join-spec =

@@ -27,7 +27,7 @@ row-requires c κs = search needs
 returns : tie.Need-returns
 returns c =
     let a = c .before .before .before .before .args in
-    c .row .ensures ∙ ap padded (last-pushed (a .n) (take (a .n) (a .held)) (a .key .now) (held-length (a .n) (a .held) (omega arith) (search needs)) (c .before .before .if1 .taken))
+    c .row .ensures ∙ ap (padded 8) (last-pushed (a .n) (take (a .n) (a .held)) (a .key .now) (held-length 8 (a .n) (a .held) (omega arith) (search needs)) (c .before .before .if1 .taken))
 
 join-requires : tie.Need-join-requires
 join-requires c κs = search needs
@@ -54,7 +54,7 @@ returns-2 : tie.Need-returns-2
 returns-2 c =
     let joined = c .before .before .before in
     let a = joined .before .before .before .args in
-    c .row2 .ensures ∙ ap padded (last-joint (a .n) (take (a .n) (a .held)) (a .key .now) (held-length (a .n) (a .held) (omega arith) (search needs)) _ _ (joined .join .ensures))
+    c .row2 .ensures ∙ ap (padded 8) (last-joint (a .n) (take (a .n) (a .held)) (a .key .now) (held-length 8 (a .n) (a .held) (omega arith) (search needs)) _ _ (joined .join .ensures))
 
 pub last-spec : {M : Type 1} → statement M
 last-spec =

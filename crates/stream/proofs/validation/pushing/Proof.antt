@@ -1,7 +1,6 @@
 -- `stream::validation::pushing` meets its contract: each return is the first test that holds.
-use mathlib.Core.Path.{sym}
 use Rattle.answers.proofs.Validation.{validated}
-use Rattle.stream.specs.Calls.{pushAnswer}
+use Rattle.stream.specs.Calls.{pushTests}
 use borrow.Author.Needs.{needs}
 use Rattle.stream.proofs.validation.pushing.Statement.{statement}
 use Rattle.stream.proofs.validation.pushing.Tie as tie
@@ -10,8 +9,8 @@ fit-requires : tie.Need-fit-requires
 fit-requires c κs = search needs
 
 returns : tie.Need-returns
-unfolding pushAnswer
-returns c = sym (search validated depth 9)
+unfolding pushTests
+returns c later = search validated depth 9
 
 cast-too-long : tie.Need-cast-too-long
 cast-too-long c = search needs
@@ -23,26 +22,19 @@ too-long-requires : tie.Need-too-long-requires
 too-long-requires c κs = search needs
 
 returns-2 : tie.Need-returns-2
-unfolding pushAnswer
-returns-2 c = sym (search validated depth 9)
+unfolding pushTests
+returns-2 c later = search validated depth 9
 
 bad-key-requires : tie.Need-bad-key-requires
 bad-key-requires c κs = search needs
 
 returns-3 : tie.Need-returns-3
-unfolding pushAnswer
-returns-3 c = sym (search validated depth 9)
-
-bad-words-requires : tie.Need-bad-words-requires
-bad-words-requires c κs = search needs
+unfolding pushTests
+returns-3 c later = search validated depth 9
 
 returns-4 : tie.Need-returns-4
-unfolding pushAnswer
-returns-4 c = sym (search validated depth 9)
-
-returns-5 : tie.Need-returns-5
-unfolding pushAnswer
-returns-5 c = sym (search validated depth 9)
+unfolding pushTests
+returns-4 c later = search validated depth 9
 
 pub pushing-spec : {M : Type 1} → statement M
 pushing-spec =
@@ -56,6 +48,4 @@ pushing-spec =
     returns-2
     bad-key-requires
     returns-3
-    bad-words-requires
-    returns-4
-    returns-5)
+    returns-4)
