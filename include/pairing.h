@@ -263,9 +263,10 @@ uint32_t pairing_stream_push(uint32_t *state, size_t state_words,
                              const uint32_t *key, size_t key_words);
 
 /*
- * Reads the digest of the words taken so far under the key words so far: the one that
- * pairing_digest_words writes of them, however they were cut into parts; this is
- * proved. Pushing may go on.
+ * Reads the digest of the words taken so far under the key words so far. Of a state
+ * that was opened and pushed by these calls it is the one that pairing_digest_words
+ * writes of them, however they were cut into parts: this is proved. Of any other fit
+ * state it is the n sums that it holds, modulo 2^b. Pushing may go on.
  *
  * Answers PAIRING_ACCEPTED with the digest in the first n places of out, places beyond
  * keeping what they held; or PAIRING_STATE as above, or PAIRING_TRAY. The state is

@@ -119,7 +119,8 @@ impl Stream {
     }
 
     /// The stream of this state. Any words are taken, and nothing is tested here: where they are no
-    /// state, every call answers `State`.
+    /// fit state, every call answers `State`. Where they are one that no stream had, a reading is
+    /// what they hold as sums, with the kept bits, and the digest of no message.
     #[must_use]
     pub fn from_words(words: [u32; STREAM_WORDS]) -> Stream {
         Stream { words }
