@@ -1,4 +1,6 @@
 // What a call answers: the numbers that the agent sees, and a function for each row of their table.
+#![tactic(auto)]
+
 pub mod table;
 
 // 0 is an accepted call. 13 to 21 belong to later calls.

@@ -1,4 +1,6 @@
 // For the benchmark: one part pushed many times, on a stream by value and on one in a row.
+#![tactic(auto)]
+
 ghost use Rattle.std.specs.Prelude.{◌≡◌};
 ghost use Rattle.stream.specs.Calls.{open_state, read_answer, read_row};
 ghost use Rattle.bench_streams.specs.Pushes.{pushes, row_pushes};

@@ -1,5 +1,7 @@
 // The C interface: digests and their match. Each entry hands its rows on and promises what the function behind it promises. A slice passes as a
 // pointer and a count.
+#![tactic(auto)]
+
 ghost use Rattle.std.specs.Prelude.{◌≡◌};
 ghost use Rattle.digest_words.specs.Call.{digest_answer, digest_row};
 ghost use Rattle.digest_bytes.specs.Call.{bytes_answer, bytes_row};

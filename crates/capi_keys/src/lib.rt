@@ -1,5 +1,7 @@
 // The C interface: key words from seeds. Each entry hands its rows on and promises what the function behind it promises. A slice passes as a
 // pointer and a count.
+#![tactic(auto)]
+
 ghost use Rattle.std.specs.Prelude.{◌≡◌, length};
 ghost use Rattle.stretch.specs.Stretch.{stretch_answer, stretched, stretch_array_answer, stretched_array};
 ghost use Rattle.stretch.specs.Load.{load_answer, load_key, load_message, load_array_answer, load_array_key, load_array_message};

@@ -1,5 +1,7 @@
 // The C interface: states over lent rows. Each entry hands its rows on and promises what the function behind it promises. A slice passes as a
 // pointer and a count.
+#![tactic(auto)]
+
 ghost use Rattle.std.specs.Prelude.{◌≡◌};
 ghost use Rattle.stream_rows.specs.Calls.{open_row_answer, open_row, push_row_answer, push_row, read_row_answer, read_row_out};
 ghost use Rattle.incremental_rows.specs.Calls as incremental;

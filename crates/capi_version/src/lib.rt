@@ -1,4 +1,6 @@
 // The C interface: which version of the library it is.
+#![tactic(auto)]
+
 ghost use Rattle.std.specs.Prelude.{◌≡◌};
 ghost use Rattle.capi_version.specs.Version.{library_version};
 

@@ -1,4 +1,6 @@
 // The digest of bytes.
+#![tactic(auto)]
+
 ghost use Rattle.std.specs.Prelude.{◌≡◌};
 ghost use Rattle.answers.specs.Answers.{Validates};
 ghost use Rattle.digest_bytes.specs.Call.{bytes_answer, bytes_row, bytes_tests};

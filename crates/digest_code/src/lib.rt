@@ -1,4 +1,6 @@
 // The code for the telephone: the one-word digest of message words as packed decimal digits.
+#![tactic(auto)]
+
 ghost use Rattle.std.specs.Prelude.{◌≡◌, ◌++◌, ◌+◌, ◌/◌, ◌≤◌, length, drop};
 ghost use Rattle.answers.specs.Answers.{Validates};
 ghost use Rattle.digest_code.specs.Call.{code_answer, code_row, code_tests};

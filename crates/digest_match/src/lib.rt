@@ -1,4 +1,6 @@
 // The match of two digests.
+#![tactic(auto)]
+
 ghost use Rattle.std.specs.Prelude.{◌≡◌, eqb, length};
 ghost use Rattle.theory_counts.specs.Count.{same_row};
 ghost use Rattle.digest_match.specs.Match.{match_answer};

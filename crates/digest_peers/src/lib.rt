@@ -1,4 +1,6 @@
 // The digests of one message under the keys of up to sixteen peers.
+#![tactic(auto)]
+
 ghost use Rattle.std.specs.Prelude.{◌≡◌, ◌++◌, ◌*◌, ◌%◌, ◌≤◌, length, drop};
 ghost use Rattle.answers.specs.Answers.{Validates};
 ghost use Rattle.digest_peers.specs.Call.{peers_answer, peers_row, peers_tests};

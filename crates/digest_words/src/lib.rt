@@ -1,4 +1,6 @@
 // The digest of words.
+#![tactic(auto)]
+
 ghost use Rattle.std.specs.Prelude.{◌≡◌};
 ghost use Rattle.answers.specs.Answers.{Validates};
 ghost use Rattle.digest_words.specs.Call.{digest_answer, digest_row, digest_tests};

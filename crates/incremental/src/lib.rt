@@ -1,4 +1,6 @@
 // A digest that is kept true while words of its message are replaced: opened with message and key, edited, read at any moment.
+#![tactic(auto)]
+
 ghost use Rattle.std.specs.Prelude.{◌≡◌};
 ghost use Rattle.incremental.specs.Calls.{open_answer, open_state, edit_answer, edit_state, edit_message, read_answer, read_row};
 
@@ -9,13 +11,13 @@ mod sums;
 pub mod validation;
 
 // The settings, the number of message words and n full-width sums. Unused places are zero.
-#[derive(Drop)]
+#[derive(Clone, Copy)]
 pub struct Incremental {
     pub held: Accumulator,
 }
 
 // What a call gives that takes or makes a state: its answer, and the state after it.
-#[derive(Drop)]
+#[derive(Clone, Copy)]
 pub struct Outcome {
     pub answer: u32,
     pub state: Incremental,

@@ -1,4 +1,6 @@
 // An incremental digest whose state is lent as a row of words. A refused call leaves every row as it was.
+#![tactic(auto)]
+
 ghost use Rattle.std.specs.Prelude.{◌≡◌, length};
 ghost use Rattle.rows.specs.Written.{over};
 ghost use Rattle.incremental_rows.specs.Rows.{row_of};

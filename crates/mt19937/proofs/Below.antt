@@ -1,5 +1,5 @@
 -- A generator's outputs are below 2^32, and so are its words once it is ready, however it was made new.
-use Rattle.std.proofs.Common.{◌≡◌, ℕ, zero, suc, ◌+◌, ◌*◌, ◌/◌, ◌%◌, ◌^◌, ◌<◌, Bool, true, false, cond, eqb, List, [], ◌∷◌, ◌++◌, get_or, set, sym, refl, ap, subst, lt_of_le_of_lt, mod-lt, arith, pow_pos}
+use Rattle.std.proofs.Common.{◌≡◌, ℕ, zero, suc, ◌*◌, ◌/◌, ◌%◌, ◌^◌, ◌<◌, Bool, true, false, cond, eqb, List, [], ◌∷◌, ◌++◌, get_or, set, sym, refl, ap, subst, lt_of_le_of_lt, mod-lt, arith, pow_pos}
 use lib.Bits.{bit_and, bit_xor, xor_lt, or_lt, and_le_l, and_le_r}
 use lib.Pow.{shr_le}
 use Rattle.rows.specs.Written.{tabulate}

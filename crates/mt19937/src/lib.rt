@@ -1,16 +1,18 @@
 // MT19937 of Matsumoto and Nishimura, in its 2002 initialisation by a seed.
+#![tactic(auto)]
+
 ghost use Rattle.std.specs.Prelude.{◌≡◌, ℕ, ◌+◌, ◌-◌, ◌*◌, ◌%◌, ◌^◌, ◌<◌, ◌≤◌, List};
 ghost use Rattle.mt19937.specs.Published.{steps, generator, following, new_words, seeded, concatenated, twisted, twist, refill, ready, temper, taken, next_of};
 
 // The words of the state, and how many of them are used up. Any state with at most 624 used up is fit.
-#[derive(Drop)]
+#[derive(Clone, Copy)]
 pub struct Generator {
     pub words: [u32; 624],
     pub at: usize,
 }
 
 // An output with the state that follows it. A refusal has the word 0 and the state that was handed in.
-#[derive(Drop)]
+#[derive(Clone, Copy)]
 pub struct Next {
     pub answer: u32,
     pub word: u32,

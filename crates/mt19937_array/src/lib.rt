@@ -1,4 +1,6 @@
 // MT19937 made new from an array of seed words: its published initialisation by array of 2002.
+#![tactic(auto)]
+
 ghost use Rattle.std.specs.Prelude.{◌≡◌, ◌<◌, ◌≤◌, length};
 ghost use Rattle.mt19937.specs.Published.{steps};
 ghost use Rattle.mt19937_array.specs.SeedArray.{onward, place_at, mixed, put, seed_word, seed_step, index_word, index_step, array_words, made};
@@ -6,7 +8,7 @@ ghost use Rattle.mt19937_array.specs.SeedArray.{onward, place_at, mixed, put, se
 use mt19937::Generator;
 
 // A generator with the answer of its making. A refusal has the all-zero generator.
-#[derive(Drop)]
+#[derive(Clone, Copy)]
 pub struct Made {
     pub answer: u32,
     pub state: Generator,

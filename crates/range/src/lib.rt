@@ -1,4 +1,6 @@
 // Range tests: of a word, of a row of words, and of a row of a state.
+#![tactic(auto)]
+
 ghost use Rattle.std.specs.Prelude.{◌≡◌, ◌&&◌, ◌^◌, ltb};
 ghost use Rattle.theory_counts.specs.Words.{fits};
 ghost use Rattle.range.specs.Range.{joined};

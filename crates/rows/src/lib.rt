@@ -1,4 +1,6 @@
 // Rows of words: the lesser of two lengths, and words copied into a row's first places.
+#![tactic(auto)]
+
 ghost use Rattle.std.specs.Prelude.{◌≡◌, min};
 ghost use Rattle.rows.specs.Written.{over};
 

@@ -1,4 +1,6 @@
 // Counts, for each message of one byte, the keys under which its digest matches that of the message of no bytes, at width 8.
+#![tactic(auto)]
+
 ghost use Rattle.std.specs.Prelude.{◌≡◌, true, [], ◌∷◌, ◌+◌, ◌%◌, ◌≤◌, ◌<◌, eqb};
 ghost use Rattle.rows.specs.Written.{tabulate};
 ghost use Rattle.theory_counts.specs.Count.{sum_to, as_number};
@@ -6,7 +8,7 @@ ghost use Rattle.theory_counts.specs.Largest.{Largest};
 ghost use Rattle.run_lengths.specs.Agree.{keys_of, digest_word, last_word, agrees_at};
 ghost use Rattle.theory_digest.specs.Claims.{most_keys};
 
-use libc::STDOUT_FILENO;
+use std::io;
 
 // The digest of the message of no bytes.
 fn digest_of_none(first: u32, second: u32) -> u8
@@ -86,7 +88,7 @@ fn keys_of(byte: u8, lasts: &[u8; 256]) -> u32
 }
 
 // The largest count of the messages so far, the first message that has it, and how many have it.
-#[derive(Drop)]
+#[derive(Clone, Copy)]
 struct Best {
     largest: u32,
     first: u32,
@@ -139,26 +141,27 @@ fn most() -> u64
     131072
 }
 
-fn number(n: u64) {
-    io::print_decimal(STDOUT_FILENO, n);
+fn number(rt: &impl Print, n: u64) -> io::Result<()> {
+    print!(rt; "{n}")
 }
 
-fn text(bytes: &[u8]) {
-    io::write_all(STDOUT_FILENO, bytes);
+fn text(rt: &impl Print, bytes: &[u8]) -> io::Result<()> {
+    rt.write_all(bytes)
 }
 
-fn main() {
+fn main(rt: HostRuntime) -> io::Result<()> {
     let best = search();
     text(
+        &rt,
         b"width 8, kept 8, one digest word: the label of no bytes and each of 256 labels of one byte, 16777216 keys\n",
-    );
-    text(b"largest count of keys under which the two match: ");
-    number(best.largest as u64);
-    text(b"\nfirst label that reaches it: ");
-    number(best.first as u64);
-    text(b"\nlabels that reach it: ");
-    number(best.messages as u64);
-    text(b"\nbound: ");
-    number(most());
-    text(b"\n");
+    )?;
+    text(&rt, b"largest count of keys under which the two match: ")?;
+    number(&rt, best.largest as u64)?;
+    text(&rt, b"\nfirst label that reaches it: ")?;
+    number(&rt, best.first as u64)?;
+    text(&rt, b"\nlabels that reach it: ")?;
+    number(&rt, best.messages as u64)?;
+    text(&rt, b"\nbound: ")?;
+    number(&rt, most())?;
+    text(&rt, b"\n")
 }

@@ -1,5 +1,7 @@
 // Counts, for every pair of different one-word messages of seven bits, the keys under which their digests agree, and
 // those under which their codes of one and of two digits do.
+#![tactic(auto)]
+
 ghost use Rattle.std.specs.Prelude.{◌≡◌, ◌+◌, ◌≤◌, ◌<◌, eqb, length};
 ghost use Rattle.theory_counts.specs.Count.{sum_to, as_number};
 ghost use Rattle.theory_pairs.specs.Agree.{agreeing, bound_of};
@@ -7,7 +9,7 @@ ghost use Rattle.run_pairs.specs.Values.{ValueOf, Valued, AllValued, agreeing_ro
 ghost use Rattle.theory_pairs.specs.Search.{cell_at, Filled, First, stands_at, LargestPair};
 
 use digest_code::decimal;
-use libc::STDOUT_FILENO;
+use std::io;
 
 // Row m has the values of the message m under all keys.
 type Values = [[u8; 16384]; 128];
@@ -136,7 +138,7 @@ fn times(counts: &[u32; 16384], x: u32) -> u32
     n
 }
 
-#[derive(Drop)]
+#[derive(Clone, Copy)]
 struct Answer {
     largest: u32,
     first: usize,
@@ -174,38 +176,41 @@ fn bound(d: u32) -> u64
     (2 * (127 / decimal::power_of_ten(d)) + 1) * 256
 }
 
-fn number(n: u64) {
-    io::print_decimal(STDOUT_FILENO, n);
+fn number(rt: &impl Print, n: u64) -> io::Result<()> {
+    print!(rt; "{n}")
 }
 
-fn text(bytes: &[u8]) {
-    io::write_all(STDOUT_FILENO, bytes);
+fn text(rt: &impl Print, bytes: &[u8]) -> io::Result<()> {
+    rt.write_all(bytes)
 }
 
 // The lines on one d, after what is compared.
-fn report(d: u32)
+fn report(rt: &impl Print, d: u32) -> io::Result<()>
     requires { d ≤ 2 }
 {
     let answer = search(d);
-    text(b", one-word messages: 8128 pairs of different messages, 16384 keys\n");
-    text(b"largest count of keys under which a pair agrees: ");
-    number(answer.largest as u64);
-    text(b"\nfirst pair that reaches it: ");
-    number(answer.first as u64);
-    text(b" and ");
-    number(answer.second as u64);
-    text(b"\npairs that reach it: ");
-    number(answer.pairs as u64);
-    text(b"\nbound: ");
-    number(bound(d));
-    text(b"\n");
+    text(
+        rt,
+        b", one-word messages: 8128 pairs of different messages, 16384 keys\n",
+    )?;
+    text(rt, b"largest count of keys under which a pair agrees: ")?;
+    number(rt, answer.largest as u64)?;
+    text(rt, b"\nfirst pair that reaches it: ")?;
+    number(rt, answer.first as u64)?;
+    text(rt, b" and ")?;
+    number(rt, answer.second as u64)?;
+    text(rt, b"\npairs that reach it: ")?;
+    number(rt, answer.pairs as u64)?;
+    text(rt, b"\nbound: ")?;
+    number(rt, bound(d))?;
+    text(rt, b"\n")
 }
 
-fn main() {
-    text(b"width 7, kept 7, one digest word");
-    report(0);
-    text(b"width 7, code of 1 digit");
-    report(1);
-    text(b"width 7, code of 2 digits");
-    report(2);
+fn main(rt: HostRuntime) -> io::Result<()> {
+    text(&rt, b"width 7, kept 7, one digest word")?;
+    report(&rt, 0)?;
+    text(&rt, b"width 7, code of 1 digit")?;
+    report(&rt, 1)?;
+    text(&rt, b"width 7, code of 2 digits")?;
+    report(&rt, 2)
 }

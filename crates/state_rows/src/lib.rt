@@ -1,4 +1,6 @@
 // A state that is lent as a row of words: its pieces in a fixed order, read from the row and written over it.
+#![tactic(auto)]
+
 ghost use Rattle.std.specs.Prelude.{◌≡◌, get_or, drop};
 ghost use Rattle.rows.specs.Written.{over};
 ghost use Rattle.state_rows.specs.Pieces.{placed};

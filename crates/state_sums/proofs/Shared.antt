@@ -1,6 +1,6 @@
 -- The shared part of a state: what a fit one has passed, how it stays fit, and what a reading writes.
-use mathlib.Core.Path.{◌≡◌, refl, sym, ap, ap₂, ◌∙◌}
-use mathlib.Core.Bool.{Bool, true, false, not, ◌&&◌, cond}
+use mathlib.Core.Path.{◌≡◌, refl, sym, ap, ◌∙◌}
+use mathlib.Core.Bool.{Bool, true, false, not, cond}
 use mathlib.Core.List.{List, [], ◌∷◌, ◌++◌}
 use Prim.Native.Nat.{ℕ, ◌≤◌}
 use native.Mathlib.Omega.{arith}
@@ -18,7 +18,7 @@ use Rattle.theory_digest.specs.Settings.{InRange}
 use Rattle.answers.specs.Answers.{test, first_of, Validates, none_of}
 use Rattle.answers.specs.Table.{too_long, bad_width, bad_kept, bad_count}
 use Rattle.answers.proofs.Validation.{none_passed, in_range, width_passes, kept_passes, count_passes, long_passed, long_passes}
-use Rattle.range.specs.States.{fit_row, padded}
+use Rattle.range.specs.States.{fit_row}
 use Rattle.range.proofs.States.{held_length, same_zeros, row_parts, zeros_row, padded_length, padded_held, padded_row, padded_over}
 use Rattle.sum_terms.proofs.Each.{length_map}
 use Rattle.state_sums.specs.declared.Accumulator.{Accumulator}

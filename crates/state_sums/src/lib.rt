@@ -1,4 +1,6 @@
 // What the states of sums share: settings, a count of words, and n full-width sums in eight places.
+#![tactic(auto)]
+
 ghost use Rattle.std.specs.Prelude.{◌≡◌};
 ghost use Rattle.rows.specs.Written.{over};
 ghost use Rattle.answers.specs.Answers.{Validates};
@@ -8,7 +10,7 @@ ghost use Rattle.state_sums.specs.Rows.{sums_of, sums_row};
 use answers::table;
 
 // The settings, a count, and n full-width sums. Unused places are zero.
-#[derive(Drop)]
+#[derive(Clone, Copy)]
 pub struct Accumulator {
     pub width: u32,
     pub kept: u32,

@@ -13,7 +13,6 @@ use Rattle.range.specs.States.{fit_row, padded}
 use Rattle.range.proofs.States.{held_length, row_parts, padded_length, padded_held, padded_row, padded_over}
 use Rattle.sum_terms.specs.Sums.{add_sums}
 use Rattle.sum_terms.proofs.Each.{length_sums, sums_more, sums_append, sums_fit, sums_none}
-use Rattle.state_sums.specs.declared.Accumulator.{Accumulator}
 use Rattle.state_sums.specs.State.{held_sums, updated}
 use Rattle.state_sums.proofs.Shared as shared
 use Rattle.stream.specs.declared.Stream.{Stream}

@@ -1,4 +1,6 @@
 // The digest as a stream of words: opened with the first n key words, fed in parts, read at any moment.
+#![tactic(auto)]
+
 ghost use Rattle.std.specs.Prelude.{◌≡◌};
 ghost use Rattle.stream.specs.Calls.{open_answer, open_state, push_answer, push_state, read_answer, read_row};
 
@@ -9,14 +11,14 @@ mod keys;
 pub mod validation;
 
 // The settings, the count of words pushed and n full-width sums, and the last n key words. Unused places are zero.
-#[derive(Drop)]
+#[derive(Clone, Copy)]
 pub struct Stream {
     pub held: Accumulator,
     pub keys: [u32; 8],
 }
 
 // What a call gives that takes or makes a state: its answer, and the state after it.
-#[derive(Drop)]
+#[derive(Clone, Copy)]
 pub struct Outcome {
     pub answer: u32,
     pub state: Stream,

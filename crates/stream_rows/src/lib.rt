@@ -1,4 +1,6 @@
 // A stream whose state is lent as a row of words. A refused call leaves every row as it was.
+#![tactic(auto)]
+
 ghost use Rattle.std.specs.Prelude.{◌≡◌, length};
 ghost use Rattle.rows.specs.Written.{over};
 ghost use Rattle.stream_rows.specs.Rows.{row_of, state_of, is_stream};

@@ -1,6 +1,6 @@
 -- Rows of key words and the stretch of a seed, as document 01 has them, each word cut from an output as document 02, "Six", says; and the stretch
 -- of a seed array, of document 02, "Seven". For each the row that it writes, and what it answers.
-use Rattle.std.specs.Prelude.{ℕ, zero, suc, ◌+◌, ◌-◌, ◌/◌, ◌^◌, ◌≡◌, List, [], ◌∷◌, ◌++◌, map, get_or, length}
+use Rattle.std.specs.Prelude.{ℕ, zero, suc, ◌+◌, ◌-◌, ◌/◌, ◌^◌, List, [], ◌∷◌, map, get_or, length}
 use Rattle.answers.specs.Answers.{first_of, afterwards}
 use Rattle.answers.specs.Table.{width_test, seed_test, long_stretch_test}
 use Rattle.mt19937.specs.Published.{seeded, temper, next_of}

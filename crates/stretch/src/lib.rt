@@ -1,4 +1,6 @@
 // Rows of key words from a seed or an array of seed words: the stretch of one row, and the load of a key row and a message row.
+#![tactic(auto)]
+
 ghost use Rattle.std.specs.Prelude.{◌≡◌, ◌≤◌, length};
 ghost use Rattle.stretch.specs.Stretch.{after, key_row, stretch_answer, stretched, stretch_array_answer, stretched_array};
 ghost use Rattle.stretch.specs.Load.{load_answer, load_array_answer, load_key, load_message, load_array_key, load_array_message};

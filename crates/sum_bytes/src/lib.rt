@@ -1,4 +1,6 @@
 // The sums of a message of bytes: the words of the closed message are decoded block by block, and each block is summed as words are.
+#![tactic(auto)]
+
 ghost use Rattle.std.specs.Prelude.{◌≡◌, true, ◌+◌, ◌*◌, ◌/◌, ◌≤◌, ◌<◌, length, get_or, drop};
 ghost use Rattle.sum_terms.specs.Sums.{summable};
 ghost use Rattle.sum_bytes.specs.Bytes.{little_endian, words_from, closed, words_in, Size, sums_from, fit_from, checked_bytes, checked_bytes_fit};

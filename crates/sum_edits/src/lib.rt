@@ -1,4 +1,6 @@
 // n sums with one message word more, or less.
+#![tactic(auto)]
+
 ghost use Rattle.std.specs.Prelude.{◌≡◌, ◌+◌, ◌*◌, ◌%◌, ◌^◌, ◌≤◌, [], ◌∷◌, if◌then◌else◌};
 ghost use Rattle.sum_terms.specs.Sums.{lack, checked_sums, checked_less};
 ghost use Rattle.sum_walk.specs.Walk.{together};

@@ -1,5 +1,7 @@
 // The sums of several peers over one message: a row of running sums for each. The message is walked once, two words to a turn: they
 // are loaded once for all rows, and each row is updated in place before the next two are loaded.
+#![tactic(auto)]
+
 ghost use Rattle.std.specs.Prelude.{◌≡◌, ◌+◌, ◌*◌, ◌/◌, ◌%◌, ◌^◌, ◌<◌, ◌≤◌, [], ◌∷◌, length, take};
 ghost use Rattle.theory_counts.specs.Words.{fits};
 ghost use Rattle.sum_walk.specs.Walk.{even_length};

@@ -1,4 +1,6 @@
 // What the sums of words are made of: products, the bits that are kept, the words as they are written, the tests before them.
+#![tactic(auto)]
+
 ghost use Rattle.std.specs.Prelude.{◌≡◌, ◌&&◌, [], ◌∷◌, map, ◌*◌, ◌%◌, ◌^◌, ◌≤◌, take};
 ghost use Rattle.rows.specs.Written.{over};
 ghost use Rattle.theory_counts.specs.Words.{fits};

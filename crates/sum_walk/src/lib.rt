@@ -1,12 +1,14 @@
 // One walk over a message and its key for n sums, with the range test of the words in it. All that digests under one key runs
 // through it.
+#![tactic(auto)]
+
 ghost use Rattle.std.specs.Prelude.{◌≡◌, ◌+◌, ◌-◌, ◌*◌, ◌^◌, ◌<◌, ◌≤◌, true, false, [], ◌∷◌, length, slice_index};
 ghost use Rattle.sum_walk.specs.Walk.{added, Accumulated, bits_fit, BitsJoined, SameBits, Ready, PairsWalked, WalkResult};
 
 use sum_terms::product;
 
 // What a walk leaves: for each sum its two numbers, and all bits that stand in a tested word.
-#[derive(Drop)]
+#[derive(Clone, Copy)]
 pub struct Walked {
     pub low: [u64; 8],
     pub high: [u64; 8],
@@ -141,7 +143,7 @@ fn high_bits(w: u32) -> u64
 
 // All bits that stand in some word: of the message at even and at odd places, and of the key in pairs, the second word of a
 // pair in the upper half. In three numbers, as the products have the words: so the test costs least.
-#[derive(Drop)]
+#[derive(Clone, Copy)]
 struct WordBits {
     even: u64,
     odd: u64,

@@ -1,4 +1,6 @@
 // n sums of one message, each under the lent key from one word further on: the walk, an odd last word, the key's last words.
+#![tactic(auto)]
+
 ghost use Rattle.std.specs.Prelude.{◌≡◌, ◌+◌, ◌%◌, ◌^◌, ◌≤◌, min, true, length, drop, slice_index};
 ghost use Rattle.rows.specs.Written.{written};
 ghost use Rattle.theory_digest.specs.Digest.{whole_sum};

@@ -1,1 +1,2 @@
 // How many keys give two messages one code: definitions and theorems, no code.
+#![tactic(auto)]

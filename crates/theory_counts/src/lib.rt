@@ -1,1 +1,2 @@
 // Counts over all keys, whatever is counted: definitions and theorems, no code.
+#![tactic(auto)]

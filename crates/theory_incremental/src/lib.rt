@@ -1,1 +1,2 @@
 // An incremental digest under every run of edits: definitions and theorems, no code.
+#![tactic(auto)]

@@ -1,6 +1,6 @@
 -- Two messages of bytes of different length under one key (document 02, "Four", which calls them labels); the digest of each is the byte digest's own,
 -- `bytes_digest`, which the promise of `digest_bytes` names.
-use Rattle.std.specs.Prelude.{◌≡◌, ◌≢◌, Bool, false, List, ℕ, ◌+◌, ◌*◌, ◌-◌, ◌^◌, ◌≤◌, eqb, length, take, replicate}
+use Rattle.std.specs.Prelude.{◌≡◌, ◌≢◌, Bool, false, List, ℕ, ◌+◌, ◌*◌, ◌^◌, ◌≤◌, eqb, length, take, replicate}
 use Rattle.theory_counts.specs.Count.{count, differ_by}
 use Rattle.theory_digest.specs.Settings.{InRange}
 use Rattle.answers.specs.Table.{bad_byte_width}

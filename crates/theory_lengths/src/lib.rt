@@ -1,1 +1,2 @@
 // Messages of different length under one key: definitions and theorems, no code.
+#![tactic(auto)]

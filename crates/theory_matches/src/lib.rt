@@ -1,1 +1,2 @@
 // How often two different messages match: definitions and theorems, no code.
+#![tactic(auto)]

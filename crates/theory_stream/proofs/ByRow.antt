@@ -4,7 +4,6 @@ use mathlib.Core.Bool.{true}
 use mathlib.Core.List.{List, [], ◌∷◌}
 use Prim.Native.Nat.{ℕ}
 use native.Mathlib.Decide.{ℕ_discrete}
-use native.Mathlib.Omega.{arith}
 use lib.ListN.{length, take, drop}
 use lib.Seq.{take_at}
 use Rattle.answers.specs.Answers.{state_after}
@@ -19,7 +18,7 @@ use Rattle.stream.specs.declared.Stream.{Stream}
 use Rattle.stream.specs.State.{pushed, opened}
 use Rattle.stream.specs.Calls.{open_tests, open_answer, open_state, push_answer, push_state, read_answer, read_row}
 use Rattle.stream.proofs.Valid.{takes, opens}
-use Rattle.stream.proofs.Pushes.{Good, pushed_good}
+use Rattle.stream.proofs.Pushes.{pushed_good}
 use Rattle.stream_rows.specs.Rows.{row_of, state_of, is_stream}
 use Rattle.stream_rows.specs.Calls.{open_row_answer, open_row, push_row_answer, push_row, read_row_answer, read_row_out}
 use Rattle.stream_rows.proofs.Rows.{all_words, row_is, state_kept}

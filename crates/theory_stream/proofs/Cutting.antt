@@ -6,12 +6,11 @@ use mathlib.Core.List.{List, [], ◌∷◌, ◌++◌, map}
 use Prim.Native.Nat.{ℕ, ◌+◌, ◌≤◌}
 use native.Mathlib.Nat.{zero-add}
 use native.Mathlib.Omega.{arith}
-use lib.ListN.{length, take, replicate, length-append, length-replicate}
-use lib.Seq.{length-take-le}
+use lib.ListN.{length, replicate, length-append}
 use Rattle.theory_counts.specs.Words.{fits}
 use Rattle.theory_digest.specs.Digest.{full_words, kept, digest}
 use Rattle.answers.specs.Answers.{first_of, afterwards}
-use Rattle.theory_counts.proofs.Fits.{both, fits_append, fits_parts, fits_zeros}
+use Rattle.theory_counts.proofs.Fits.{both, fits_append}
 use Rattle.answers.proofs.Validation.{width_passes, kept_passes, count_passes, long_passes, key_passes, words_pass}
 use Rattle.sum_terms.specs.Sums.{add_sums}
 use Rattle.sum_terms.proofs.Each.{sums_zero, length_full}

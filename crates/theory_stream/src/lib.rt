@@ -1,1 +1,2 @@
 // A stream under every cutting of a message: definitions and theorems, no code.
+#![tactic(auto)]

@@ -1,1 +1,2 @@
 // What a stretch and a load leave: definitions and theorems, no code.
+#![tactic(auto)]

@@ -1,0 +1,5 @@
+-- `incremental::sums::corrected` meets its contract: taken off, then added.
+use Rattle.incremental.proofs.sums.corrected.Goals as goal
+
+pub returns : goal.returns
+returns c = rw (c.add_word.ensures, c.subtract_word.ensures)
