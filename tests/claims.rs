@@ -5,19 +5,18 @@ use std::collections::{BTreeMap, BTreeSet};
 use std::fs;
 use Token::{Name, Path, Word};
 
-/// A word that starts so is a path. What is built, below target/, is not looked for.
+/// A word that starts so is a path. What is built, below target/ and out/, is not looked for.
 const FOLDERS: [&str; 7] = [
     "crates/", "agent/", "tests/", "include/", "docs/", "tools/", "bench/",
 ];
 
 /// Code marks that name nothing of the repository, and what they name.
-const OUTSIDE: [(&str, &str); 7] = [
+const OUTSIDE: [(&str, &str); 6] = [
     ("requires", "the language's word for a premise"),
     ("ensures", "the language's word for a promise"),
     ("&[u32]", "a type of the language"),
     ("&[u8]", "a type of the language"),
     ("rt ci", "a command of the toolchain"),
-    ("write", "C's own function"),
     ("std::mt19937", "C++'s own generator"),
 ];
 
@@ -33,9 +32,10 @@ impl Tree {
         for entry in fs::read_dir(folder).unwrap() {
             let path = entry.unwrap().path();
             let name = path.strip_prefix(".").unwrap().to_string_lossy();
+            let made = path.ends_with("target") || path.ends_with("out");
             if path.is_file() {
                 self.add(&name, &String::from_utf8_lossy(&fs::read(&path).unwrap()));
-            } else if !name.starts_with('.') && !path.ends_with("target") {
+            } else if !made && !name.starts_with('.') {
                 self.read(&path);
             }
         }
@@ -214,10 +214,10 @@ fn wrong(text: &str) -> String {
         ("Makefile", "test: lib"),
         ("crates.txt", "capi: sums"),
         ("crates/sums/specs/Sum.antt", "-- gone : ℕ"),
-        ("crates/sums/specs/Sum.antt", "unfoldable pub oneWord : ℕ"),
+        ("crates/sums/specs/Sum.antt", "unfoldable pub one_word : ℕ"),
         ("crates/sums/proofs/Row.antt", "record Row (w : ℕ) : ℕ"),
         ("crates/sums/proofs/Row.antt", "  pub long : ℕ"),
-        ("crates/sums/proofs/keep/Proof.antt", "pub keep-spec : ℕ"),
+        ("crates/sums/proofs/keep/Answers.antt", "pub returns : goal"),
         ("crates/sums/src/lib.rt", "// fn gone"),
         ("crates/sums/src/lib.rt", "pub struct State {"),
         ("crates/sums/src/lib.rt", "    pub fn new() -> State"),
@@ -245,7 +245,7 @@ fn what_exists_is_not_reported() {
         "`State::new`, `sums::keep`, crates/sums/src/lib.rt; `capi`; `number`; `pairing_*`",
         "`pairing_width`, `PAIRING_WIDTH`: include/pairing.h; `pairing_match` (capi)",
         "(crates/sums/must-fail): `wrong_shift`; crate capi: `one_row` | `one_row` (capi, and so on)",
-        "`oneWord`, tests/run.c; `make\n  test`, `pairing count`, `write`, crates/capi",
+        "`one_word`, tests/run.c; `make\n  test`, `pairing count`, `rt ci`, crates/capi",
     ] {
         assert_eq!(wrong(text), "");
     }
@@ -256,16 +256,16 @@ fn a_missing_path_is_reported() {
     for path in ["crates/sums/specs/Sums.antt", "crates/sum/specs", "bench/"] {
         let fault = format!("line 3: no such path: {path}");
         assert_eq!(wrong(&format!("the file\n{path}, (tests/run.c).")), fault);
-        assert_eq!(wrong(&format!("the file\n`{path}`: `oneWord`.")), fault);
+        assert_eq!(wrong(&format!("the file\n`{path}`: `one_word`.")), fault);
     }
 }
 
 #[test]
 fn a_missing_name_is_reported() {
-    let names = "gone, keep-specs, wrong_shifts, make tests, pairing none, State::old, capi::new, paired_*, spec/, Sums.antt";
+    let names = "gone, keeps, wrong_shifts, make tests, pairing none, State::old, capi::new, paired_*, spec/, Sums.antt";
     for name in names.split(", ") {
         let fault = format!("line 3: no such name: {name}");
-        assert_eq!(wrong(&format!("\n`oneWord`, `{name}`")), fault);
+        assert_eq!(wrong(&format!("\n`one_word`, `{name}`")), fault);
     }
 }
 

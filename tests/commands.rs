@@ -5,14 +5,15 @@
 //! output is shown for a command whose output is not the point. A status other than 0 is shown by `echo $?` after it.
 //! Commands in code marks within the text run too, where they stand.
 
+use std::env;
 use std::fs;
 use std::path::{Path, PathBuf};
-use std::process::{Command, Stdio};
+use std::process::{self, Command, Stdio};
 
 const DOCUMENTS: [&str; 2] = ["README.md", "docs/GUIDE.md"];
 
 /// A text in code marks that begins so is a command.
-const PROGRAMS: [&str; 4] = ["make ", "pairing ", "rt ", "cargo "];
+const PROGRAMS: [&str; 5] = ["make ", "pairing ", "rt ", "cargo ", "(cd "];
 
 /// Commands that are not run here, and why. Their targets and programs exist all the same.
 const NOT_RUN: [(&str, &str); 6] = [
@@ -149,19 +150,33 @@ fn faults(document: &str, text: &str, folder: &Path) -> Vec<String> {
     faults
 }
 
-/// A copy of the repository, with what was proved of it, that the commands may change.
+/// The checkout's files but what is built and what the toolchain keeps, and the proved library.
+fn sources() -> Vec<PathBuf> {
+    let within = |folder: &Path| -> Vec<PathBuf> {
+        let entries = fs::read_dir(folder).unwrap();
+        entries.map(|entry| entry.unwrap().path()).collect()
+    };
+    let skipped = |path: &PathBuf| {
+        ["./target", "./.git", "./crates"].contains(&path.to_str().unwrap_or_default())
+    };
+    let mut all = within(".".as_ref());
+    all.retain(|path| !skipped(path));
+    for folder in within("./crates".as_ref()) {
+        let files = within(&folder).into_iter();
+        all.extend(files.filter(|path| !path.ends_with("out")));
+    }
+    all.extend(Some(PathBuf::from("./target/staticlib")).filter(|path| path.exists()));
+    all
+}
+
+/// A copy of the repository, with the proved library, that the commands may change. It lies outside the checkout, in which
+/// the toolchain wants no second copy. What was proved of the crates is not copied: a check there begins with it.
 fn copy() -> PathBuf {
-    let copy = PathBuf::from("target/tests/copy");
-    let _ = fs::remove_dir_all(&copy);
-    fs::create_dir_all(copy.join("target")).unwrap();
-    let proved =
-        ["rlib", "stamp", "log", "bin", "staticlib"].map(|name| Path::new("target").join(name));
-    let all = fs::read_dir(".")
-        .unwrap()
-        .map(|entry| entry.unwrap().path());
-    let sources = all.filter(|path| !path.ends_with("target") && !path.ends_with(".git"));
-    for from in sources.chain(proved.into_iter().filter(|path| path.exists())) {
+    let copy = env::temp_dir().join(format!("pairing-commands-{}", process::id()));
+    fs::create_dir(&copy).unwrap();
+    for from in sources() {
         let to = copy.join(from.parent().unwrap());
+        fs::create_dir_all(&to).unwrap();
         let copied = Command::new("cp").arg("-rp").arg(&from).arg(&to).status();
         assert!(copied.unwrap().success(), "{} is copied", from.display());
     }
@@ -171,16 +186,18 @@ fn copy() -> PathBuf {
 #[test]
 fn commands_run_as_written() {
     let copy = copy();
+    let mut all = Vec::new();
     for document in DOCUMENTS {
         let text = fs::read_to_string(document).unwrap();
-        let faults = faults(document, &text, &copy);
-        assert!(faults.is_empty(), "{}", faults.join("\n"));
+        all.extend(faults(document, &text, &copy));
     }
     // one of them installs the command line, and nothing else
-    let installed = fs::read_dir(copy.join("target/scratch/bin")).unwrap();
-    let names: Vec<_> = installed.map(|entry| entry.unwrap().file_name()).collect();
-    assert_eq!(names, ["pairing"]);
+    let installed = fs::read_dir(copy.join("target/scratch/bin"));
+    let installed = installed.map(|files| files.map(|file| file.unwrap().file_name()));
+    let names: Vec<_> = installed.into_iter().flatten().collect();
     fs::remove_dir_all(copy).unwrap();
+    assert!(all.is_empty(), "{}", all.join("\n"));
+    assert_eq!(names, ["pairing"]);
 }
 
 /// What is wrong in a small document whose one fence has these lines.

@@ -1,13 +1,23 @@
 # What the scripts beside this one ask of crates.txt. They source it in the repository's root.
 
-# listed [FILE]: a line 'NAME DEP DEP' for each crate, without the comments and the empty lines.
+# entries [FILE]: the lines for crates, 'NAME KIND: DEP DEP', without the comments and the empty lines.
+entries() {
+    sed -e 's/#.*//' "${1:-crates.txt}" | awk 'NF { $1 = $1; print }'
+}
+
+# listed: a line 'NAME DEP DEP' for each crate.
 listed() {
-    sed -e 's/#.*//' -e 's/:/ /' "${1:-crates.txt}" | awk 'NF { $1 = $1; print }'
+    entries | sed -e 's/^\([^ :]*\)[^:]*:*/\1 /' | awk '{ $1 = $1; print }'
 }
 
 # The names alone.
 crate_names() {
     listed | awk '{ print $1 }'
+}
+
+# has_files NAME: whether the crate's folder has anything but what rt made there.
+has_files() {
+    [ -n "$(ls -A "crates/$1" 2>/dev/null | grep -vx out)" ]
 }
 
 # closure NAME...: reads lines 'NAME NEXT NEXT' and prints the names given and every name that they lead to, each once.

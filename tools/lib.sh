@@ -1,7 +1,7 @@
 #!/usr/bin/env bash
 # Proves the library and writes it: target/staticlib/libpairing.a, which joins the archives of all crates capi_*.
-# Shows a line for each crate; the prover's own lines go to a log. Where the archive and all that it is made of are as they
-# were when it was written, there is nothing to do.
+# Shows a line for each crate that is proved; the prover's own lines go to a log. Where the archive and all that it is made of
+# are as they were when it was written, there is nothing to do.
 set -euo pipefail
 cd "$(dirname "$0")/.."
 . tools/crates.sh
@@ -17,7 +17,7 @@ fail() {
 }
 
 # A line for each thing that the library is made of: the toolchain, the machine, these scripts, the crates' list and each
-# file, but the must-fail edits, of the crates capi_* and of those below them.
+# file, but the must-fail edits and what rt makes, of the crates capi_* and of those below them.
 inputs() {
     local name
     rt version
@@ -26,31 +26,33 @@ inputs() {
     for name in $(below $parts | sort); do
         # The toolchain's own libraries have no folder here.
         [ -d "crates/$name" ] || continue
-        find "crates/$name" -type f ! -path '*/must-fail/*' -exec sha256sum {} + | sort -k 2
+        find "crates/$name" -type f ! -path '*/must-fail/*' ! -path "crates/$name/out/*" -exec sha256sum {} + | sort -k 2
     done
 }
 
-# Proves each part, and what is below it, and writes its archive.
+# Proves each part, and what is below it, over what earlier checks kept in out/, and gathers the archives.
 prove() {
     local name
     for name in $parts; do
-        rt staticlib "$name" || {
+        rm -f "crates/$name/out/lib$name.a"
+        (cd "crates/$name" && rt lib) || {
             echo "rt: $name NOT PROVED"
             return 1
         }
+        cp "crates/$name/out/lib$name.a" "$folder"
     done
 }
 
-# The prover's verdicts, one for a crate: a crate that is below several parts has one for each, and the first tells its time.
+# The prover's verdicts, one for each crate that it took up, with the time. A library that is built already has none.
 verdicts() {
-    local name verdict shown=' '
-    sed -u -n -e 's/^rt: \([a-z0-9_]*\) \(proved (.*)\)$/\1 \2/p' -e 's/^rt: \([a-z0-9_]*\) NOT PROVED.*/\1 NOT PROVED/p' \
-        -e 's/^rt: .*\/lib\([a-z0-9_]*\)\.a has the functions of .*/\1 proved/p' |
-        while read -r name verdict; do
-            [[ $shown != *" $name "* ]] || continue
-            shown+="$name "
-            echo "  $name $verdict"
-        done
+    local line name='' begun=$SECONDS
+    while IFS= read -r line; do
+        case $line in
+        'rt: chose --jobs '*' for '*) name=${line##* } begun=$SECONDS ;;
+        'logic=proved '*) echo "  $name proved ($((SECONDS - begun)) s)" ;;
+        'logic='*) echo "  $name NOT PROVED" ;;
+        esac
+    done
 }
 
 # join FOLDER: writes the library of the parts' archives. Each is one object, in which only the functions for C are seen from
@@ -66,7 +68,7 @@ join() {
     exported=$(nm -g --defined-only "$objects/joined.a" | awk 'NF == 3 { print $3 }' | sort)
     [ -z "$(uniq -d <<<"$exported")" ] || fail "More than one crate exports:" $(uniq -d <<<"$exported")
     due=$(for name in $parts; do find "crates/$name/src" -name '*.rt' -exec cat {} +; done |
-        sed -n 's/^ *pub extern "C" fn \([A-Za-z0-9_]*\).*/\1/p' | sort)
+        sed -n 's/^ *pub \(unsafe \)\{0,1\}extern "C" fn \([A-Za-z0-9_]*\).*/\2/p' | sort)
     [ "$exported" = "$due" ] || fail "The archives do not export what the crates declare:" $(comm -3 <(echo "$exported") <(echo "$due"))
     mv "$objects/joined.a" "$library"
 }

@@ -1,5 +1,6 @@
 #!/usr/bin/env bash
 # The whole gate. Stops at the first failure; its last line adds up what rt ci and the tests say of themselves.
+# rt ci runs at the top of the checkout as it stands: nothing is copied, removed or left out before it.
 set -euo pipefail
 shopt -s nullglob
 cd "$(dirname "$0")/.."
@@ -20,7 +21,7 @@ check_list() {
     names=$(crate_names)
     for folder in crates/*/; do
         name=$(basename "$folder")
-        grep -qx "$name" <<<"$names" || fail "crates.txt does not list crates/$name"
+        grep -qx "$name" <<<"$names" || ! has_files "$name" || fail "crates.txt does not list crates/$name"
     done
 }
 
@@ -53,13 +54,22 @@ answers() {
     echo "test result: ok. 1 passed; 0 failed; 0 ignored; 0 measured; 0 filtered out"
 }
 
+# edits_refused: rt ci passes where a must-fail edit cannot be applied or read. Here that is a failure: its line 'rt: ok' must be
+# there, and name no bad edit.
+edits_refused() {
+    local ok
+    ok=$(sed -n 's/^rt: ok; handles allowed: none; //p' "$logs/rt-ci")
+    [ -n "$ok" ] || fail "rt ci did not say that all is well with no handle allowed"
+    ! grep -qE ', [1-9][0-9]* bad(;|$)' <<<"$ok" || fail "there are must-fail edits that say nothing: rt ci names each as a BAD EDIT"
+}
+
 last_line='$s/^\([0-9][0-9]*\) passed, 0 failed$/\1/p'
 results='s/^test result: ok\. \([0-9][0-9]*\) passed; 0 failed;.*/\1/p'
 
 check_list
-rt fmt --check
 run answers "$results" answers
 run rt-ci "$last_line" rt ci
+edits_refused
 
 # Built here, so that the copy in which the documents' commands run has the library too, and does not prove it once more.
 tools/lib.sh

@@ -49,7 +49,6 @@ fn documentation(source: &str, sign: &str) -> String {
     lines.collect::<Vec<_>>().join("\n")
 }
 
-
 /// The guide's example of an incremental digest is the type's.
 #[test]
 fn the_rust_of_the_guide_is_the_types() {

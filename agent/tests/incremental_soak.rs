@@ -2,7 +2,7 @@
 //! bytes, codes, peers, streams, incremental digests, stretches and loads, others than those that the
 //! other tests compare with.
 //!
-//! Not part of the gate: `make soak` runs it. It stops after ten minutes and says how far it came.
+//! Not part of the gate: `make soak-incremental` runs it. It stops after ten minutes and says how far it came.
 //! PAIRING_SOAK_CALLS and PAIRING_SOAK_SEED set other numbers.
 
 #![forbid(unsafe_code)]
@@ -32,7 +32,7 @@ const SHOWN: u64 = 10;
 const RARE: usize = 5;
 
 #[test]
-#[ignore = "takes minutes; run by make soak"]
+#[ignore = "takes minutes; run by make soak-incremental"]
 fn soak() {
     let calls = from_environment("PAIRING_SOAK_CALLS", CALLS);
     let seed = from_environment("PAIRING_SOAK_SEED", 1);

@@ -114,12 +114,14 @@ pub fn unread(args: &[&str]) {
     );
 }
 
-/// A folder of one test's own.
+/// A folder of one test's own. It lies outside the checkout, in which the prover wants no links: a
+/// run that is ended leaves some.
 pub struct Folder(PathBuf);
 
 impl Folder {
     pub fn new(name: &str) -> Folder {
-        let path = PathBuf::from(env!("CARGO_TARGET_TMPDIR")).join(format!("cli-{name}"));
+        let name = format!("pairing-cli-{name}-{}", std::process::id());
+        let path = std::env::temp_dir().join(name);
         // A run that was ended may have left it.
         let _ = fs::remove_dir_all(&path);
         fs::create_dir(&path).expect("the folder is made");
