@@ -1,5 +1,6 @@
 //! Every path and every name in code marks that docs/CLAIMS.md gives exists, each name in the place given beside it,
-//! and every must-fail edit is named there. Run from the repository's root.
+//! and every must-fail edit is named there. Every path that the documents beside it give exists. Run from the repository's
+//! root.
 
 use std::collections::{BTreeMap, BTreeSet};
 use std::fs;
@@ -18,6 +19,14 @@ const OUTSIDE: [(&str, &str); 6] = [
     ("&[u8]", "a type of the language"),
     ("rt ci", "a command of the toolchain"),
     ("std::mt19937", "C++'s own generator"),
+];
+
+/// The documents of which the paths alone are looked for.
+const OTHERS: [&str; 4] = [
+    "README.md",
+    "docs/GUIDE.md",
+    "docs/DECISIONS.md",
+    "docs/SPEED.md",
 ];
 
 /// The file that lists the commands of the command line.
@@ -205,6 +214,20 @@ fn what_the_document_names_exists() {
     tree.read(".".as_ref());
     let faults = faults(&fs::read_to_string("docs/CLAIMS.md").unwrap(), &tree);
     assert!(faults.is_empty(), "docs/CLAIMS.md:\n{}", faults.join("\n"));
+}
+
+#[test]
+fn the_paths_of_the_other_documents_exist() {
+    let mut tree = Tree::default();
+    tree.read(".".as_ref());
+    for document in OTHERS {
+        let text = fs::read_to_string(document).unwrap();
+        for (line, token) in tokens(&text) {
+            let Path(path) = token else { continue };
+            let found = !tree.below(path).is_empty();
+            assert!(found, "{document}, line {line}: no such path: {path}");
+        }
+    }
 }
 
 /// What is wrong in a text about a small made-up repository, whose edits the first line names.

@@ -79,7 +79,7 @@ impl Refusal {
             Refusal::Kept => "wrong kept bits",
             Refusal::Count => "wrong digest size",
             Refusal::Peers => "wrong number of peers",
-            Refusal::Long => "wrong length",
+            Refusal::Long => "too long",
             Refusal::Key => "wrong lengths",
             Refusal::Place => "no such place",
             Refusal::Tray => "wrong lengths",
@@ -103,10 +103,7 @@ impl Refusal {
             Refusal::Kept => "keep at least 1 bit and no more than the width",
             Refusal::Count => "ask for 1 to 8 digest words",
             Refusal::Peers => "pair 1 to 16 peers at a time",
-            Refusal::Long => {
-                "shorten the message, or the row to stretch or load into; for an edit hand in the \
-                 whole message that the state was opened with"
-            }
+            Refusal::Long => "shorten the message, or the row to stretch or load into",
             Refusal::Key => {
                 "give a key that goes with the message; check the word count and pair again"
             }
