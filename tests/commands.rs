@@ -8,7 +8,7 @@
 use std::env;
 use std::fs;
 use std::path::{Path, PathBuf};
-use std::process::{self, Command, Stdio};
+use std::process::{Command, Stdio};
 
 const DOCUMENTS: [&str; 2] = ["README.md", "docs/GUIDE.md"];
 
@@ -172,7 +172,11 @@ fn sources() -> Vec<PathBuf> {
 /// A copy of the repository, with the proved library, that the commands may change. It lies outside the checkout, in which
 /// the toolchain wants no second copy. What was proved of the crates is not copied: a check there begins with it.
 fn copy() -> PathBuf {
-    let copy = env::temp_dir().join(format!("pairing-commands-{}", process::id()));
+    let checkout = env::current_dir().unwrap();
+    let checkout = checkout.to_string_lossy().replace('/', "-");
+    let copy = env::temp_dir().join(format!("pairing-commands{checkout}"));
+    // a run that was ended may have left it
+    let _ = fs::remove_dir_all(&copy);
     fs::create_dir(&copy).unwrap();
     for from in sources() {
         let to = copy.join(from.parent().unwrap());
