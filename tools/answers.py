@@ -46,8 +46,20 @@ def capitals(answer):
 
 
 def rattle(answers):
-    """The constants; 0 has none."""
-    return "\n\n".join(f"pub const {capitals(a)}: u32 = {a['number']};" for a in answers if a["number"])
+    """The refusals, which are those with a fault, and the verdicts of a match; 0 is neither."""
+
+    def enum(comment, name, rows):
+        variants = "".join(f"    {a['word'].title().replace(' ', '')} = {a['number']},\n" for a in rows)
+        return f"// {comment}\n#[derive(Clone, Copy, Debug, PartialEq, Eq)]\npub enum {name} {{\n{variants}}}"
+
+    refusals = [a for a in answers if "fault" in a]
+    verdicts = [a for a in answers if "fault" not in a and a["number"]]
+    return "\n\n".join(
+        [
+            enum("What refuses a call, in the order of the tests.", "Refusal", refusals),
+            enum("What a match finds.", "Verdict", verdicts),
+        ]
+    )
 
 
 def header(answers):

@@ -1,4 +1,4 @@
-//! Every list of the answers' numbers is the same list: the proved library's constants, the C
+//! Every list of the answers' numbers is the same list: the proved library's enums, the C
 //! header, `Refusal`, the README's table and `pairing explain`. One script writes them all; here each
 //! is read for itself. So are the limits and the version, and the README's lines of Rust are the
 //! crate's.
@@ -30,15 +30,25 @@ fn accepted() -> (u32, String) {
     (0, "ACCEPTED".into())
 }
 
-/// `pub const NAME: u32 = 1;`
+/// `Name = 1,`, of the two enums between the marks.
 fn of_rattle() -> List {
-    let constant = |line: &str| {
-        let (constant, number) = line.strip_suffix(';')?.split_once(": u32 = ")?;
-        let name = constant.strip_prefix("pub const ")?;
-        Some((number.parse().unwrap(), name.to_string()))
+    let variant = |line: &str| {
+        let (variant, number) = line.strip_suffix(',')?.split_once(" = ")?;
+        let mut name = String::new();
+        for letter in variant.trim().chars() {
+            if letter.is_uppercase() && !name.is_empty() {
+                name.push('_');
+            }
+            name.push(letter.to_ascii_uppercase());
+        }
+        Some((number.parse().unwrap(), name))
     };
-    let constants = RATTLE.lines().filter_map(constant);
-    constants.chain([accepted()]).collect()
+    let (_, rest) = RATTLE.split_once("// begin: ").expect("a list");
+    let (list, _) = rest.split_once("// end: ").expect("its end");
+    list.lines()
+        .filter_map(variant)
+        .chain([accepted()])
+        .collect()
 }
 
 /// `PAIRING_NAME = 1,`

@@ -1,3 +1,4 @@
 pub mod Validation
+pub mod Refused
 pub mod Rows
 pub mod States

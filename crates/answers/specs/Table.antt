@@ -37,6 +37,9 @@ count_test n = test 3 (bad_count n)
 abbrev pub too_long : ℕ → ℕ → Bool
 too_long most words = ltb most words
 
+abbrev pub most_test : ℕ → ℕ → Test
+most_test most words = test 4 (too_long most words)
+
 -- 4 Long: more than 65,536 message words, in a stream counting those taken
 abbrev pub long_test : ℕ → Test
 long_test t = test 4 (too_long 65536 t)

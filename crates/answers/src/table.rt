@@ -1,123 +1,125 @@
-// Whether the condition of a row of the table holds of a call: one function for each row.
-ghost use Rattle.std.specs.Prelude.{◌≡◌};
-ghost use Rattle.answers.specs.Table.{bad_width, bad_byte_width, bad_kept, bad_count, too_long, bad_length, bad_key, small_tray, bad_rows, bad_words, bad_peers, bad_seed, bad_place};
+// The rows of the table: one function for each, which refuses a call of which the row's condition holds.
+ghost use Rattle.std.specs.Prelude.{[], ◌∷◌};
+ghost use Rattle.answers.specs.Answers.{Validates};
+ghost use Rattle.answers.specs.Refusals.{answer_of};
+ghost use Rattle.answers.specs.Table.{width_test, byte_width_test, kept_test, count_test, most_test, length_test, key_test, tray_test, match_tray_test, word_test, peers_test, seed_test, place_test};
 
+use crate::Refusal;
 use range::row_fits;
 
 // 1 Width.
-pub fn bad_width(w: u32) -> bool
-    ensures { result ≡ bad_width w }
+#[tactic(auto, using(crate::proofs::Refused::row_of_a_range), unfolding(crate::specs::Table::bad_width))]
+pub fn width(w: u32) -> Result<(), Refusal>
+    ensures { Validates (width_test w ∷ []) (answer_of result) }
 {
-    if w < 1 {
-        return true;
+    match w {
+        1..=32 => Ok(()),
+        _ => Err(Refusal::Width),
     }
-    32 < w
 }
 
 // 1 Width, in the byte digest.
-pub fn bad_byte_width(w: u32) -> bool
-    ensures { result ≡ bad_byte_width w }
+#[tactic(auto, using(crate::proofs::Refused::row_of_numbers), unfolding(crate::specs::Table::bad_byte_width))]
+pub fn byte_width(w: u32) -> Result<(), Refusal>
+    ensures { Validates (byte_width_test w ∷ []) (answer_of result) }
 {
-    if w == 8 {
-        return false;
+    match w {
+        8 | 16 | 32 => Ok(()),
+        _ => Err(Refusal::Width),
     }
-    if w == 16 {
-        return false;
-    }
-    w != 32
 }
 
 // 2 Kept.
-pub fn bad_kept(w: u32, b: u32) -> bool
-    ensures { result ≡ bad_kept w b }
+#[tactic(auto, using(crate::proofs::Refused::checks), unfolding(crate::specs::Table::bad_kept))]
+pub fn kept(w: u32, b: u32) -> Result<(), Refusal>
+    ensures { Validates (kept_test w b ∷ []) (answer_of result) }
 {
-    if b == 0 {
-        return true;
-    }
-    w < b
+    Refusal::Kept.check(b == 0)?;
+    Refusal::Kept.check(w < b)
 }
 
 // 3 Count.
-pub fn bad_count(n: u32) -> bool
-    ensures { result ≡ bad_count n }
+#[tactic(auto, using(crate::proofs::Refused::row_of_a_range), unfolding(crate::specs::Table::bad_count))]
+pub fn count(n: u32) -> Result<(), Refusal>
+    ensures { Validates (count_test n ∷ []) (answer_of result) }
 {
-    if n < 1 {
-        return true;
+    match n {
+        1..=8 => Ok(()),
+        _ => Err(Refusal::Count),
     }
-    8 < n
 }
 
 // 4 Long.
-pub fn too_long(most: usize, words: usize) -> bool
-    ensures { result ≡ too_long most words }
+pub fn long(most: usize, words: usize) -> Result<(), Refusal>
+    ensures { Validates (most_test most words ∷ []) (answer_of result) }
 {
-    most < words
+    Refusal::Long.check(most < words)
 }
 
 // 4 Long, of a row that has its own number of words.
-pub fn bad_length(t: usize, words: usize) -> bool
-    ensures { result ≡ bad_length t words }
+pub fn length(t: usize, words: usize) -> Result<(), Refusal>
+    ensures { Validates (length_test t words ∷ []) (answer_of result) }
 {
-    words != t
+    Refusal::Long.check(words != t)
 }
 
 // 5 Key.
-pub fn bad_key(asked: usize, words: usize) -> bool
-    ensures { result ≡ bad_key asked words }
+pub fn key(asked: usize, words: usize) -> Result<(), Refusal>
+    ensures { Validates (key_test asked words ∷ []) (answer_of result) }
 {
-    words != asked
+    Refusal::Key.check(words != asked)
 }
 
 // 6 Tray.
-pub fn small_tray(asked: usize, places: usize) -> bool
-    ensures { result ≡ small_tray asked places }
+pub fn tray(asked: usize, places: usize) -> Result<(), Refusal>
+    ensures { Validates (tray_test asked places ∷ []) (answer_of result) }
 {
-    places < asked
+    Refusal::Tray.check(places < asked)
 }
 
 // 6 Tray, in a match.
-pub fn bad_rows(n: usize, first: usize, second: usize) -> bool
-    ensures { result ≡ bad_rows n first second }
+#[tactic(auto, using(crate::proofs::Refused::checks), unfolding(crate::specs::Table::bad_rows))]
+pub fn match_tray(n: usize, first: usize, second: usize) -> Result<(), Refusal>
+    ensures { Validates (match_tray_test n first second ∷ []) (answer_of result) }
 {
-    if first != n {
-        return true;
-    }
-    second != n
+    Refusal::Tray.check(first != n)?;
+    Refusal::Tray.check(second != n)
 }
 
 // 7 Word.
-pub fn bad_words(w: u32, message: &[u32], key: &[u32]) -> bool
-    ensures { result ≡ bad_words w message.now key.now }
+#[tactic(auto, using(crate::proofs::Refused::checks), unfolding(crate::specs::Table::bad_words))]
+pub fn words(w: u32, message: &[u32], key: &[u32]) -> Result<(), Refusal>
+    ensures { Validates (word_test w message.now key.now ∷ []) (answer_of result) }
 {
-    if row_fits(w, message) {
-        return !row_fits(w, key);
-    }
-    true
+    Refusal::Word.check(!row_fits(w, message))?;
+    Refusal::Word.check(!row_fits(w, key))
 }
 
 // 10 Peers.
-pub fn bad_peers(p: u32) -> bool
-    ensures { result ≡ bad_peers p }
+#[tactic(auto, using(crate::proofs::Refused::row_of_a_range), unfolding(crate::specs::Table::bad_peers))]
+pub fn peers(p: u32) -> Result<(), Refusal>
+    ensures { Validates (peers_test p ∷ []) (answer_of result) }
 {
-    if p < 1 {
-        return true;
+    match p {
+        1..=16 => Ok(()),
+        _ => Err(Refusal::Peers),
     }
-    16 < p
 }
 
 // 11 Seed.
-pub fn bad_seed(words: usize) -> bool
-    ensures { result ≡ bad_seed words }
+#[tactic(auto, using(crate::proofs::Refused::row_of_a_range), unfolding(crate::specs::Table::bad_seed))]
+pub fn seed(words: usize) -> Result<(), Refusal>
+    ensures { Validates (seed_test words ∷ []) (answer_of result) }
 {
-    if words < 1 {
-        return true;
+    match words {
+        1..=8 => Ok(()),
+        _ => Err(Refusal::Seed),
     }
-    8 < words
 }
 
 // 12 Place.
-pub fn bad_place(t: usize, place: usize) -> bool
-    ensures { result ≡ bad_place t place }
+pub fn place(t: usize, place: usize) -> Result<(), Refusal>
+    ensures { Validates (place_test t place ∷ []) (answer_of result) }
 {
-    t <= place
+    Refusal::Place.check(t <= place)
 }

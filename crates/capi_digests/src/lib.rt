@@ -21,7 +21,7 @@ pub extern "C" fn pairing_digest_words(
     ensures { (result ≡ digest_answer w b n message.now key.now out.old)
         × (out.new ≡ digest_row w b n message.now key.now out.old) }
 {
-    digest_words::digest_words(w, b, n, message, key, out)
+    answers::answer(digest_words::digest_words(w, b, n, message, key, out))
 }
 
 #[unsafe(no_mangle)]
@@ -36,7 +36,7 @@ pub extern "C" fn pairing_digest_bytes(
     ensures { (result ≡ bytes_answer w b n message.now key.now out.old)
         × (out.new ≡ bytes_row w b n message.now key.now out.old) }
 {
-    digest_bytes::digest_bytes(w, b, n, message, key, out)
+    answers::answer(digest_bytes::digest_bytes(w, b, n, message, key, out))
 }
 
 #[unsafe(no_mangle)]
@@ -50,7 +50,7 @@ pub extern "C" fn pairing_digest_code(
     ensures { (result ≡ code_answer w d message.now key.now out.old)
         × (out.new ≡ code_row w d message.now key.now out.old) }
 {
-    digest_code::digest_code(w, d, message, key, out)
+    answers::answer(digest_code::digest_code(w, d, message, key, out))
 }
 
 #[unsafe(no_mangle)]
@@ -66,12 +66,12 @@ pub extern "C" fn pairing_digest_peers(
     ensures { (result ≡ peers_answer w b n p message.now keys.now out.old)
         × (out.new ≡ peers_row w b n p message.now keys.now out.old) }
 {
-    digest_peers::digest_peers(w, b, n, p, message, keys, out)
+    answers::answer(digest_peers::digest_peers(w, b, n, p, message, keys, out))
 }
 
 #[unsafe(no_mangle)]
 pub extern "C" fn pairing_match(n: u32, first: &[u32], second: &[u32]) -> u32
     ensures { result ≡ match_answer n first.now second.now }
 {
-    digest_match::digests_match(n, first, second)
+    answers::match_answer(digest_match::digests_match(n, first, second))
 }

@@ -11,7 +11,7 @@ pub extern "C" fn pairing_stream_open(w: u32, b: u32, n: u32, key: &[u32], state
     ensures { (result ≡ open_row_answer w b n key.now state.old)
         × (state.new ≡ open_row w b n key.now state.old) }
 {
-    stream_rows::open(w, b, n, key, state)
+    answers::answer(stream_rows::open(w, b, n, key, state))
 }
 
 #[unsafe(no_mangle)]
@@ -19,7 +19,7 @@ pub extern "C" fn pairing_stream_push(state: &mut [u32], message: &[u32], key: &
     ensures { (result ≡ push_row_answer state.old message.now key.now)
         × (state.new ≡ push_row state.old message.now key.now) }
 {
-    stream_rows::push(state, message, key)
+    answers::answer(stream_rows::push(state, message, key))
 }
 
 #[unsafe(no_mangle)]
@@ -27,7 +27,7 @@ pub extern "C" fn pairing_stream_read(state: &[u32], out: &mut [u32]) -> u32
     ensures { (result ≡ read_row_answer state.now out.old)
         × (out.new ≡ read_row_out state.now out.old) }
 {
-    stream_rows::read(state, out)
+    answers::answer(stream_rows::read(state, out))
 }
 
 #[unsafe(no_mangle)]
@@ -42,7 +42,7 @@ pub extern "C" fn pairing_incremental_open(
     ensures { (result ≡ incremental.open_row_answer w b n message.now key.now state.old)
         × (state.new ≡ incremental.open_row w b n message.now key.now state.old) }
 {
-    incremental_rows::open(w, b, n, message, key, state)
+    answers::answer(incremental_rows::open(w, b, n, message, key, state))
 }
 
 #[unsafe(no_mangle)]
@@ -57,7 +57,7 @@ pub extern "C" fn pairing_incremental_edit(
         × (state.new ≡ incremental.edit_row state.old message.old key.now place word)
         × (message.new ≡ incremental.edit_row_message state.old message.old key.now place word) }
 {
-    incremental_rows::edit(state, message, key, place, word)
+    answers::answer(incremental_rows::edit(state, message, key, place, word))
 }
 
 #[unsafe(no_mangle)]
@@ -65,5 +65,5 @@ pub extern "C" fn pairing_incremental_read(state: &[u32], out: &mut [u32]) -> u3
     ensures { (result ≡ incremental.read_row_answer state.now out.old)
         × (out.new ≡ incremental.read_row_out state.now out.old) }
 {
-    incremental_rows::read(state, out)
+    answers::answer(incremental_rows::read(state, out))
 }

@@ -6,29 +6,12 @@ ghost use Rattle.digest_code.specs.Digits.{bad_digits};
 pub fn power_of_ten(d: u32) -> u64
     ensures { result ≡ 10 ^ min d 9 }
 {
-    let end = rows::lesser(d as usize, 9);
-    let mut power: u64 = 1;
-    let mut i = 0;
-    while i < end {
-        power = power * 10;
-        i += 1;
-    }
-    power
+    10u64.pow(d.min(9))
 }
 
-// 9 Digits. A width above 32, which no word has, counts as 32.
+// 9 Digits. A width above 32, which no word has, counts as 32: 2^32 lies between 10^9 and 10^10.
 pub fn bad_digits(w: u32, d: u32) -> bool
     ensures { result ≡ bad_digits (min w 32) d }
 {
-    if d == 0 {
-        return true;
-    }
-    // 2^32 lies between 10^9 and 10^10.
-    if 9 < d {
-        return true;
-    }
-    if 32 <= w {
-        return false;
-    }
-    (1u64 << w) < power_of_ten(d)
+    !(1..=9).contains(&d) || 1 << w.min(32) < power_of_ten(d)
 }

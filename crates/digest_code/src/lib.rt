@@ -3,59 +3,52 @@
 
 ghost use Rattle.std.specs.Prelude.{◌≡◌, ◌++◌, ◌+◌, ◌/◌, ◌≤◌, length, drop};
 ghost use Rattle.answers.specs.Answers.{Validates};
+ghost use Rattle.answers.specs.Refusals.{answer_of};
 ghost use Rattle.digest_code.specs.Call.{code_answer, code_row, code_tests};
 ghost use Rattle.digest_code.specs.Bytes.{last_byte, last_bytes};
 
-use answers::table;
+use answers::{Refusal, table};
 
 pub mod decimal;
 
-// The code of d digits of the message under the key into the first places of out, two digits to a byte, or the number of the
-// first test that refuses it.
-pub fn digest_code(w: u32, d: u32, message: &[u32], key: &[u32], out: &mut [u8]) -> u32
-    ensures { (result ≡ code_answer w d message.now key.now out.old)
+// The code of d digits of the message under the key into the first places of out, two digits to a byte, or the first
+// refusal.
+pub fn digest_code(
+    w: u32,
+    d: u32,
+    message: &[u32],
+    key: &[u32],
+    out: &mut [u8],
+) -> Result<(), Refusal>
+    ensures { (answer_of result ≡ code_answer w d message.now key.now out.old)
         × (out.new ≡ code_row w d message.now key.now out.old) }
 {
-    let answer = validate(w, d, message, key, out);
-    if answer != 0 {
-        return answer;
-    }
+    validate(w, d, message, key, out)?;
     let mut sums = [0u32; 8];
     if !sum_words::add_sums(w, 1, true, message, key, &mut sums) {
-        return answers::WORD;
+        return Err(Refusal::Word);
     }
-    let number = (sums[0] as u64) % decimal::power_of_ten(d);
+    let number = u64::from(sums[0]) % decimal::power_of_ten(d);
     write_digits(number, bytes_of(d), out);
-    0
+    Ok(())
 }
 
-// The first test that refuses the call, else 0; all but Word, which the walk makes.
-fn validate(w: u32, d: u32, message: &[u32], key: &[u32], out: &[u8]) -> u32
-    ensures { Validates (code_tests w d message.now key.now out.now) result }
+// All tests but Word, which the walk makes.
+fn validate(w: u32, d: u32, message: &[u32], key: &[u32], out: &[u8]) -> Result<(), Refusal>
+    ensures { Validates (code_tests w d message.now key.now out.now) (answer_of result) }
 {
-    if table::bad_width(w) {
-        return answers::WIDTH;
-    }
-    if decimal::bad_digits(w, d) {
-        return answers::DIGITS;
-    }
-    if table::too_long(answers::MOST_MESSAGE, message.len()) {
-        return answers::LONG;
-    }
-    if table::bad_key(message.len() + 1, key.len()) {
-        return answers::KEY;
-    }
-    if table::small_tray(bytes_of(d), out.len()) {
-        return answers::TRAY;
-    }
-    0
+    table::width(w)?;
+    Refusal::Digits.check(decimal::bad_digits(w, d))?;
+    table::long(answers::MOST_MESSAGE, message.len())?;
+    table::key(message.len() + 1, key.len())?;
+    table::tray(bytes_of(d), out.len())
 }
 
 // How many bytes d digits take, for every d.
 fn bytes_of(d: u32) -> usize
     ensures { result ≡ (d + 1) / 2 }
 {
-    (d as usize + 1) / 2
+    d.div_ceil(2) as usize
 }
 
 // The number's last digits into the row's first places, two to a byte, the last byte first.
@@ -64,11 +57,9 @@ fn write_digits(number: u64, places: usize, row: &mut [u8])
     ensures { row.new ≡ last_bytes places number ++ drop places row.old }
 {
     let mut rest = number;
-    let mut place = places;
-    while 0 < place {
-        place -= 1;
+    for place in (0..places).rev() {
         row[place] = last_byte(rest);
-        rest = rest / 100;
+        rest /= 100;
     }
 }
 

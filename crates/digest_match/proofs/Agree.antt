@@ -1,17 +1,17 @@
 -- The test that two rows agree by the bits in which some place differs.
-use mathlib.Core.Path.{◌≡◌, sym, ap, ap₂, ◌∙◌}
+use mathlib.Core.Path.{◌≡◌, sym, ap, ◌∙◌}
 use mathlib.Core.Bool.{Bool, ◌&&◌, and-true, and_assoc}
-use mathlib.Core.List.{List}
-use Prim.Native.Nat.{ℕ, suc, ◌+◌, ◌≤◌, ◌<◌}
+use mathlib.Core.List.{List, [], ◌∷◌}
+use Prim.Native.Nat.{ℕ}
 use native.Mathlib.Decide.{ℕ_discrete}
-use native.Mathlib.Numerals.{add-one}
 use native.Mathlib.Omega.{arith}
 use lib.Bits.{bit_or, bit_xor, or_add_and, xor_add_and, xor_self, and_le_l, and_le_r}
 use lib.Dec.{eqb}
-use lib.ListN.{length, get_or, drop, drop_of_length-le}
-use lib.Seq.{drop-cons}
+use lib.ListN.{length}
 use borrow.Author.Tests.{eq-eqb, ne_eqb}
+use Rattle.std.specs.List.{fold, zip}
 use Rattle.theory_counts.specs.Count.{same_row}
+use Rattle.digest_match.specs.Match.{differing}
 
 -- no bit of two words differs exactly where they are equal
 xor_zero : (x y : ℕ) → bit_xor x y ≡ 0 → x ≡ y
@@ -34,24 +34,18 @@ or_none bits x y = go (ℕ_discrete bits 0) (ℕ_discrete x y)
         ne_eqb (bit_or bits d) 0 (λ z. e (omega (arith, or_add_and bits d, and_le_r bits d)))
         ∙ sym (rw (ne_eqb bits 0 e))
 
--- the places so far and the words from i on agree exactly where the rows do
-abbrev pub Agreeing : List ℕ → List ℕ → ℕ → ℕ → Type 0
-Agreeing xs ys bits i = (eqb bits 0 && same_row (drop i xs) (drop i ys)) ≡ same_row xs ys
-
-pub agreeing_step : (xs ys : List ℕ) (bits i : ℕ) → i < length xs → length xs ≡ length ys → Agreeing xs ys bits i
-    → Agreeing xs ys (bit_or bits (bit_xor (get_or xs i 0) (get_or ys i 0))) (i + 1)
+-- the bits so far, joined by those in which some place differs
+joined : (bits : ℕ) (xs ys : List ℕ) → length xs ≡ length ys
+    → eqb (fold (λ (b : ℕ) (p : ℕ × ℕ). bit_or b (bit_xor p.0 p.1)) bits (zip xs ys)) 0 ≡ (eqb bits 0 && same_row xs ys)
 unfolding same_row
-agreeing_step xs ys bits i lt long h =
-    let x : ℕ = get_or xs i 0 in
-    let y : ℕ = get_or ys i 0 in
-    ap₂ (λ (a b : Bool). a && b) (or_none bits x y) (ap (λ (n : ℕ). same_row (drop n xs) (drop n ys)) (add-one i))
-    ∙ and_assoc (eqb bits 0) (eqb x y) (same_row (drop (suc i) xs) (drop (suc i) ys))
-    ∙ ap₂ (λ (l r : List ℕ). eqb bits 0 && same_row l r) (sym (drop-cons xs i 0 lt)) (sym (drop-cons ys i 0 (omega arith)))
-    ∙ h
+joined bits [] [] e = sym (and-true (eqb bits 0))
+joined bits [] (y ∷ ys) e = absurd (omega arith)
+joined bits (x ∷ xs) [] e = absurd (omega arith)
+joined bits (x ∷ xs) (y ∷ ys) e =
+    joined (bit_or bits (bit_xor x y)) xs ys (omega arith)
+    ∙ ap (λ (t : Bool). t && same_row xs ys) (or_none bits x y)
+    ∙ and_assoc (eqb bits 0) (eqb x y) (same_row xs ys)
 
-pub agreeing_end : (xs ys : List ℕ) (bits i : ℕ) → length xs ≤ i → length xs ≡ length ys → Agreeing xs ys bits i → eqb bits 0 ≡ same_row xs ys
-unfolding same_row
-agreeing_end xs ys bits i le long h =
-    sym (and-true (eqb bits 0))
-    ∙ ap₂ (λ (l r : List ℕ). eqb bits 0 && same_row l r) (sym (drop_of_length-le xs le)) (sym (drop_of_length-le ys {i = i} (omega arith)))
-    ∙ h
+-- no bit differs exactly where rows of one length agree
+pub unlike_tells : {n bits : ℕ} (xs ys : List ℕ) → length xs ≡ n → length ys ≡ n → bits ≡ differing xs ys → eqb bits 0 ≡ same_row xs ys
+unlike_tells xs ys e f h = ap (λ (b : ℕ). eqb b 0) h ∙ joined 0 xs ys (e ∙ sym f)

@@ -27,9 +27,6 @@ module _ (b n : ℕ) (rows : List (List ℕ)) where
       ∙ ap₂ (λ (x y : ℕ). x + y) (length_kept q) (length_tabulate _ n)
       ∙ sym (suc-mul q n)
 
-  pub kept_long : (q : ℕ) (old out : List ℕ) → q * n ≤ length old → out ≡ kept_rows b n q rows ++ drop (q * n) old → length out ≡ length old
-  kept_long q old out le e = ap length e ∙ length-append (kept_rows b n q rows) (drop (q * n) old) ∙ omega (arith, length_kept q, length-drop (q * n) old)
-
   -- one row more, where the one before it ended
   pub one_more : (q k : ℕ) (old out new : List ℕ) → k ≡ n → out ≡ kept_rows b n q rows ++ drop (q * n) old → new ≡ kept_row b n (get_or rows q [])
       → take (q * n) out ++ (new ++ drop k (drop (q * n) out)) ≡ kept_rows b n (q + 1) rows ++ drop ((q + 1) * n) old

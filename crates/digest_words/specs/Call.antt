@@ -15,6 +15,10 @@ digest_tests w b n ms ks out =
     ∷ tray_test n (length out)
     ∷ []
 
+-- those after Width, of t message words, by the number of key words and of places: a digest of bytes has them too
+abbrev pub tests_after_width : ℕ → ℕ → ℕ → ℕ → ℕ → ℕ → List Test
+tests_after_width w b n t key places = kept_test w b ∷ count_test n ∷ long_test t ∷ key_test (t + n) key ∷ tray_test n places ∷ []
+
 -- and then Word; 0 for an accepted call
 unfoldable pub digest_answer : ℕ → ℕ → ℕ → List ℕ → List ℕ → List ℕ → ℕ
 digest_answer w b n ms ks out = first_of (digest_tests w b n ms ks out) (first_of (word_test w ms ks ∷ []) 0)

@@ -3,49 +3,62 @@
 
 ghost use Rattle.std.specs.Prelude.{◌≡◌};
 ghost use Rattle.answers.specs.Answers.{Validates};
-ghost use Rattle.digest_words.specs.Call.{digest_answer, digest_row, digest_tests};
+ghost use Rattle.answers.specs.Refusals.{answer_of};
+ghost use Rattle.digest_words.specs.Call.{digest_answer, digest_row, digest_tests, tests_after_width};
 
-use answers::table;
+use answers::{Refusal, table};
 
-// The digest of the message under the key into the first n places of out, or the number of the first test that refuses it.
-pub fn digest_words(w: u32, b: u32, n: u32, message: &[u32], key: &[u32], out: &mut [u32]) -> u32
-    ensures { (result ≡ digest_answer w b n message.now key.now out.old)
+// The digest of the message under the key into the first n places of out, or the first refusal.
+pub fn digest_words(
+    w: u32,
+    b: u32,
+    n: u32,
+    message: &[u32],
+    key: &[u32],
+    out: &mut [u32],
+) -> Result<(), Refusal>
+    ensures { (answer_of result ≡ digest_answer w b n message.now key.now out.old)
         × (out.new ≡ digest_row w b n message.now key.now out.old) }
 {
-    let answer = validate(w, b, n, message, key, out);
-    if answer != 0 {
-        return answer;
-    }
+    validate(w, b, n, message, key, out)?;
     let mut sums = [0u32; 8];
     if !sum_words::add_sums(w, n, true, message, key, &mut sums) {
-        return answers::WORD;
+        return Err(Refusal::Word);
     }
     sum_terms::write_kept(b, n as usize, sums, out);
-    0
+    Ok(())
 }
 
-// The first of tests 1 to 6 that refuses the call, else 0. Test 7, Word, is made as the words are summed.
-fn validate(w: u32, b: u32, n: u32, message: &[u32], key: &[u32], out: &[u32]) -> u32
-    ensures { Validates (digest_tests w b n message.now key.now out.now) result }
+// Tests 1 to 6. Test 7, Word, is made as the words are summed.
+fn validate(
+    w: u32,
+    b: u32,
+    n: u32,
+    message: &[u32],
+    key: &[u32],
+    out: &[u32],
+) -> Result<(), Refusal>
+    ensures { Validates (digest_tests w b n message.now key.now out.now) (answer_of result) }
+{
+    table::width(w)?;
+    validate_after_width(w, b, n, message.len(), key.len(), out.len())
+}
+
+// Tests 2 to 6, by the number of message words, key words and places: a digest of bytes has them too.
+pub fn validate_after_width(
+    w: u32,
+    b: u32,
+    n: u32,
+    t: usize,
+    key: usize,
+    places: usize,
+) -> Result<(), Refusal>
+    ensures { Validates (tests_after_width w b n t key places) (answer_of result) }
 {
     let words = n as usize;
-    if table::bad_width(w) {
-        return answers::WIDTH;
-    }
-    if table::bad_kept(w, b) {
-        return answers::KEPT;
-    }
-    if table::bad_count(n) {
-        return answers::COUNT;
-    }
-    if table::too_long(answers::MOST_MESSAGE, message.len()) {
-        return answers::LONG;
-    }
-    if table::bad_key(message.len() + words, key.len()) {
-        return answers::KEY;
-    }
-    if table::small_tray(words, out.len()) {
-        return answers::TRAY;
-    }
-    0
+    table::kept(w, b)?;
+    table::count(n)?;
+    table::long(answers::MOST_MESSAGE, t)?;
+    table::key(t + words, key)?;
+    table::tray(words, places)
 }

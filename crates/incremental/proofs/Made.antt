@@ -1,13 +1,16 @@
 -- The states as the code makes them, and the key words that an edit reads.
-use mathlib.Core.Path.{◌≡◌, refl, ap, ap₂, ◌∙◌}
-use mathlib.Core.Bool.{Bool}
+use mathlib.Core.Path.{◌≡◌, refl, ap, subst, ap₂, ◌∙◌}
 use mathlib.Core.List.{List, [], ◌∷◌, ◌++◌}
 use Prim.Native.Nat.{ℕ, suc, ◌+◌, ◌-◌, min}
 use native.Mathlib.Omega.{arith}
 use lib.ListN.{length, get_or, take, drop, replicate, length-take, length-drop}
 use Rattle.rows.proofs.Parts.{part_to_end}
 use Rattle.theory_digest.specs.Digest.{full_words}
-use Rattle.answers.specs.Table.{bad_words}
+use Rattle.std.specs.Prelude.{Result}
+use Rattle.answers.specs.declared.Refusal.{Refusal}
+use Rattle.answers.specs.Answers.{Validates}
+use Rattle.answers.specs.Refusals.{answer_of}
+use Rattle.answers.specs.Table.{word_test}
 use Rattle.sum_terms.specs.Sums.{add_sums, subtract_sums, checked_sums, checked_less}
 use Rattle.sum_terms.proofs.Summable.{Sums}
 use Rattle.sum_terms.proofs.Changes.{first_places, other_places}
@@ -40,6 +43,12 @@ opened_from w b n ms ks sums o e =
     (e
     ∙ checked_sums_lem w n ms ks (replicate 8 0) (opening_sums w b n ms ks o)
     ∙ ap (λ (l : List ℕ). l ++ drop n (replicate 8 0)) (ap (add_sums w ms ks) zeros ∙ sums_zero w n ms ks)))
+
+-- as the code makes it: over a begun one
+pub opened_over : (w b n : ℕ) (ms ks sums : List ℕ) (held : Accumulator) → Ready w b n ms ks → held ≡ begun w b n (length ms) → sums ≡ checked_sums w n ms ks held.sums
+    → ◌≡◌ {A = Incremental} (record { held = record held { sums = sums } }) (opened w b n ms ks)
+unfolding begun
+opened_over w b n ms ks sums held o made e = rw made (opened_from w b n ms ks sums o (rw made at e))
 
 pub length_edit : (w old word : ℕ) (part sums : List ℕ) → length (edit_sums w old word part sums) ≡ length sums
 unfolding edit_sums
@@ -92,7 +101,9 @@ module _ (s : Incremental) (ms ks : List ℕ) (place word : ℕ) (p : Edits s ms
       (rw (part_to_end (length ks) place ks refl) (corrected a.width a.n (get_or ms place 0) word (drop place ks) a.sums editing_sums)))
 
 -- Word, of the n + 1 key words under the place as the code lends them
-pub key_words : (w n place old word : ℕ) (ks : List ℕ) {bad : Bool} → bad ≡ bad_words w (old ∷ word ∷ []) (take (place + n + 1 - place) (drop place ks)) → bad ≡ bad_words w (old ∷ word ∷ []) (take (suc n) (drop place ks))
-key_words w n place old word ks e =
+pub key_words : (w n place old word : ℕ) (ks : List ℕ) (r : Result Unit Refusal)
+    → Validates (word_test w (old ∷ word ∷ []) (take (place + n + 1 - place) (drop place ks)) ∷ []) (answer_of r)
+    → Validates (word_test w (old ∷ word ∷ []) (take (suc n) (drop place ks)) ∷ []) (answer_of r)
+key_words w n place old word ks r j =
     let count : place + n + 1 - place ≡ suc n = omega arith in
-    e ∙ ap (λ (m : ℕ). bad_words w (old ∷ word ∷ []) (take m (drop place ks))) count
+    subst (λ (m : ℕ). Validates (word_test w (old ∷ word ∷ []) (take m (drop place ks)) ∷ []) (answer_of r)) count j

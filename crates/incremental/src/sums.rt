@@ -1,42 +1,24 @@
-// The states that the calls make.
-ghost use Rattle.std.specs.Prelude.{◌≡◌, [], ◌∷◌};
+// The sums that an edit makes.
+ghost use Rattle.std.specs.Prelude.{◌≡◌, [], ◌∷◌, length};
 ghost use Rattle.sum_terms.specs.Sums.{checked_sums, checked_less};
-ghost use Rattle.incremental.specs.State.{no_incremental};
 
-use crate::{Incremental, Outcome};
 use state_sums::Accumulator;
-
-// A refused opening: the answer, and the all-zero state.
-pub(crate) fn refused(answer: u32) -> Outcome
-    ensures { (result.answer ≡ answer) × (result.state ≡ no_incremental) }
-{
-    let held = Accumulator::new(0, 0, 0, 0);
-    Outcome {
-        answer,
-        state: Incremental { held },
-    }
-}
 
 // The sums without what the old word gave and with what the new one gives; `part` is the key from the word under them on. n
 // steps twice, however long the message is.
 pub(crate) fn corrected(s: Accumulator, old: u32, word: u32, part: &[u32]) -> Accumulator
-    ensures { result
+    ensures { (result
         ≡ record {
           width = s.width;
           kept = s.kept;
           n = s.n;
           count = s.count;
           sums = checked_sums s.width s.n (word ∷ []) part.now (checked_less s.width s.n (old ∷ []) part.now s.sums);
-        } }
+        })
+        × (length s.sums ≡ 8) }
 {
     let mut sums = s.sums;
     sum_edits::subtract_word(s.width, s.n, old, part, &mut sums);
     sum_edits::add_word(s.width, s.n, word, part, &mut sums);
-    Accumulator {
-        width: s.width,
-        kept: s.kept,
-        n: s.n,
-        count: s.count,
-        sums,
-    }
+    Accumulator { sums, ..s }
 }

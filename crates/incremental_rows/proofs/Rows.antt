@@ -1,10 +1,10 @@
 -- A state and its row: the row's length, that it is an incremental digest's, and the state that it holds.
 use mathlib.Core.Path.{◌≡◌, sym, ap, ◌∙◌}
-use mathlib.Core.Bool.{true, false}
+use mathlib.Core.Bool.{true}
 use mathlib.Core.List.{List, [], append-nil}
 use Prim.Native.Nat.{ℕ}
 use lib.ListN.{length}
-use borrow.Author.Tests.{eq-eqb, ne_eqb}
+use borrow.Author.Tests.{eq-eqb, eqb-true}
 use Rattle.state_sums.specs.Rows.{sums_row, sums_of}
 use Rattle.state_sums.proofs.Rows as shared
 use Rattle.incremental.specs.declared.Incremental.{Incremental}
@@ -16,9 +16,9 @@ pub ours : (row : List ℕ) → length row ≡ 12 → is_incremental row ≡ tru
 unfolding is_incremental
 ours row e = eq-eqb (length row) 12 e
 
-pub another : (row : List ℕ) → (length row ≡ 12 → ⊥) → is_incremental row ≡ false
+pub incremental_length : (row : List ℕ) → is_incremental row ≡ true → length row ≡ 12
 unfolding is_incremental
-another row ne = ne_eqb (length row) 12 ne
+incremental_length row e = eqb-true (length row) 12 e
 
 module _ (s : Incremental) (sums : length s.held.sums ≡ 8) where
   pub all_words : length (row_of s) ≡ 12

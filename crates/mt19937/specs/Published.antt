@@ -5,7 +5,12 @@ use Rattle.rows.specs.Written.{tabulate}
 use Rattle.answers.specs.Answers.{first_of}
 use Rattle.answers.specs.Table.{state_test}
 use Rattle.mt19937.specs.declared.Generator.{Generator}
-use Rattle.mt19937.specs.declared.Next.{Next}
+
+-- 01, The generator, Next: what a next answers, its output, and the state that follows
+pub record Next : Type 0 where
+  pub answer : ℕ
+  pub word : ℕ
+  pub state : Generator
 
 -- the steps f 0, f 1, .. in order and in place, n of them
 unfoldable pub steps : (ℕ → List ℕ → List ℕ) → ℕ → List ℕ → List ℕ

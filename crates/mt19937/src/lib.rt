@@ -1,22 +1,20 @@
 // MT19937 of Matsumoto and Nishimura, in its 2002 initialisation by a seed.
 #![tactic(auto)]
 
-ghost use Rattle.std.specs.Prelude.{◌≡◌, ℕ, ◌+◌, ◌-◌, ◌*◌, ◌%◌, ◌^◌, ◌<◌, ◌≤◌, List};
+ghost use Rattle.std.specs.Prelude.{◌≡◌, ℕ, ◌+◌, ◌-◌, ◌*◌, ◌%◌, ◌^◌, ◌<◌, ◌≤◌, List, IfOk};
+ghost use Rattle.answers.specs.Refusals.{answer_of};
 ghost use Rattle.mt19937.specs.Published.{steps, generator, following, new_words, seeded, concatenated, twisted, twist, refill, ready, temper, taken, next_of};
+
+use answers::Refusal;
+
+// The words of a state.
+pub type Words = [u32; Generator::SIZE];
 
 // The words of the state, and how many of them are used up. Any state with at most 624 used up is fit.
 #[derive(Clone, Copy)]
 pub struct Generator {
-    pub words: [u32; 624],
+    pub words: Words,
     pub at: usize,
-}
-
-// An output with the state that follows it. A refusal has the word 0 and the state that was handed in.
-#[derive(Clone, Copy)]
-pub struct Next {
-    pub answer: u32,
-    pub word: u32,
-    pub state: Generator,
 }
 
 impl Generator {
@@ -58,35 +56,42 @@ impl Generator {
     pub fn new(seed: u32) -> Generator
         ensures { result ≡ seeded seed }
     {
-        let words = fill(seed);
         Generator {
-            words,
+            words: fill(seed),
             at: Self::SIZE,
         }
     }
 
-    pub fn next(self) -> Next
-        ensures { result ≡ next_of self }
+    // The next output. A refusal leaves the state as it was.
+    pub fn next(&mut self) -> Result<u32, Refusal>
+        ensures answer { answer_of result ≡ (next_of self.old).answer }
+        ensures word { IfOk result (λ word. word ≡ (next_of self.old).word) }
+        ensures state { self.new ≡ (next_of self.old).state }
     {
-        let at = self.at;
-        if at > Self::SIZE {
-            return Next {
-                answer: answers::STATE,
-                word: 0,
-                state: self,
-            };
+        if self.at > Self::SIZE {
+            return Err(Refusal::State);
         }
-        let mut words = self.words;
-        let from = make_ready(&mut words, at);
-        take_at(words, from)
+        self.at = make_ready(&mut self.words, self.at);
+        Ok(self.take())
+    }
+
+    // The output at a position below 624. The position rises by one.
+    fn take(&mut self) -> u32
+        requires { self.old.at < 624 }
+        ensures word { result ≡ (taken self.old).word }
+        ensures state { self.new ≡ (taken self.old).state }
+    {
+        let word = temper_word(self.words[self.at]);
+        self.at += 1;
+        word
     }
 }
 
-// The product modulo 2^32. The wrap is meant.
+// The product modulo 2^32. The wrap is meant. A helper of its own, as the forms of the papers ask of the filling.
 pub fn wrapping_mul(a: u32, b: u32) -> u32
     ensures { result ≡ (a * b) % 2 ^ 32 }
 {
-    ((a as u64) * (b as u64) % 0x1_0000_0000) as u32
+    a.wrapping_mul(b)
 }
 
 // The word that follows p in a new state.
@@ -94,17 +99,17 @@ fn follow(i: u32, p: u32) -> u32
     ensures { result ≡ following i p }
 {
     let x = p ^ (p >> Generator::FILL_SHIFT);
-    std::num::wrapping_add_u32(wrapping_mul(Generator::FILL_FACTOR, x), i)
+    wrapping_mul(Generator::FILL_FACTOR, x).wrapping_add(i)
 }
 
 // The state words that a seed makes.
-fn fill(seed: u32) -> [u32; 624]
+fn fill(seed: u32) -> Words
     ensures { result ≡ new_words seed 624 }
 {
-    let mut words = [0u32; 624];
+    let mut words = [0; Generator::SIZE];
     let mut p = seed;
-    for i in 0..Generator::SIZE {
-        words[i] = p;
+    for (i, word) in words.iter_mut().enumerate() {
+        *word = p;
         p = follow((i + 1) as u32, p);
     }
     words
@@ -128,7 +133,7 @@ fn twist_word(far: u32, y: u32) -> u32
 }
 
 // One step of the refill. The caller says where the indices wrap, so that a run of steps tests nothing.
-fn twist_at(words: &mut [u32; 624], i: usize, next: usize, far: usize)
+fn twist_at(words: &mut Words, i: usize, next: usize, far: usize)
     requires { (i < 624) × (next ≡ (i + 1) % 624) × (far ≡ (i + 397) % 624) }
     ensures { words.new ≡ twist i words.old }
 {
@@ -136,8 +141,8 @@ fn twist_at(words: &mut [u32; 624], i: usize, next: usize, far: usize)
     words[i] = twist_word(words[far], y);
 }
 
-// The steps from..to, among which no index wraps; far belongs to the first.
-fn twist_run(words: &mut [u32; 624], from: usize, to: usize, far: usize)
+// The steps from..to, among which no index wraps; far belongs to the first. By index, since a step reads three words and writes one.
+fn twist_run(words: &mut Words, from: usize, to: usize, far: usize)
     requires { (from ≤ to) × (to < 624) × (far ≡ (from + 397) % 624) × (far + (to - from) ≤ 624) }
     ensures { (ws : List ℕ) → words.old ≡ steps twist from ws → words.new ≡ steps twist to ws }
 {
@@ -146,7 +151,7 @@ fn twist_run(words: &mut [u32; 624], from: usize, to: usize, far: usize)
     }
 }
 
-fn refill_all(words: &mut [u32; 624])
+fn refill_all(words: &mut Words)
     ensures { words.new ≡ refill words.old }
 {
     twist_run(words, 0, Generator::TURN, Generator::FAR);
@@ -155,14 +160,16 @@ fn refill_all(words: &mut [u32; 624])
 }
 
 // Refills a state that is used up. The position of the next word, where there is one.
-pub fn make_ready(words: &mut [u32; 624], at: usize) -> usize
+// Words and position apart, as the rows of key words hold them: a generator lent whole is copied once more, 2 % of a stretch of 8 words.
+pub fn make_ready(words: &mut Words, at: usize) -> usize
     ensures { generator words.new result ≡ ready (generator words.old at) }
 {
     if at == Generator::SIZE {
         refill_all(words);
-        return 0;
+        0
+    } else {
+        at
     }
-    at
 }
 
 pub fn temper_word(y: u32) -> u32
@@ -172,18 +179,4 @@ pub fn temper_word(y: u32) -> u32
     let b = a ^ ((a << Generator::SECOND_SHIFT) & Generator::SECOND_MASK);
     let c = b ^ ((b << Generator::THIRD_SHIFT) & Generator::THIRD_MASK);
     c ^ (c >> Generator::LAST_SHIFT)
-}
-
-// The output at a position below 624, with the position after it.
-fn take_at(words: [u32; 624], at: usize) -> Next
-    requires { at < 624 }
-    ensures { result ≡ taken (generator words at) }
-{
-    let word = temper_word(words[at]);
-    let after = at + 1;
-    Next {
-        answer: 0,
-        word,
-        state: Generator { words, at: after },
-    }
 }

@@ -6,7 +6,6 @@ use Rattle.answers.specs.Answers.{first_of}
 use Rattle.answers.specs.Table.{seed_test}
 use Rattle.mt19937.specs.Published.{steps, generator, new_words}
 use Rattle.mt19937.specs.declared.Generator.{Generator}
-use Rattle.mt19937_array.specs.declared.Made.{Made}
 
 -- 02, "Seven", an index of the page: it goes up by one, and where that reaches the end it is back at the start
 unfoldable pub onward : ℕ → ℕ → ℕ → ℕ
@@ -64,6 +63,11 @@ no_generator = generator (replicate 624 0) 0
 -- 02, "Seven": the generator that a seed array makes
 unfoldable pub arrayed : List ℕ → Generator
 arrayed seed = cond (array_answer seed == 0) (generator (array_words seed) 624) no_generator
+
+-- 02, "Seven": what a making answers, and its generator
+pub record Made : Type 0 where
+  pub answer : ℕ
+  pub state : Generator
 
 -- 02, "Seven": the same with the answer
 unfoldable pub made : List ℕ → Made

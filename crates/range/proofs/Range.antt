@@ -2,20 +2,16 @@
 use mathlib.Core.Path.{◌≡◌, sym, ap, ◌∙◌}
 use mathlib.Core.Bool.{Bool, ◌&&◌, and-true, and_assoc}
 use mathlib.Core.List.{List, [], ◌∷◌}
-use Prim.Native.Nat.{ℕ, ◌+◌, ◌*◌, ◌^◌, ◌≤◌, ◌<◌}
+use Prim.Native.Nat.{ℕ, ◌*◌, ◌^◌, ◌≤◌, ◌<◌}
 use native.Mathlib.Nat.{le_of_lt, lt_of_le_of_lt, mul-le-mul_left, mul-lt-mul_of_pos_right}
 use native.Mathlib.Decide.{dec_lt}
-use native.Mathlib.Numerals.{add-one}
 use native.Mathlib.Omega.{arith}
 use lib.Bits.{bit_or, or_lt, or_add_and, and_le_l, and_le_r}
 use lib.Dec.{ltb}
 use lib.Pow.{pow_pos}
-use lib.ListN.{length, get_or, drop, drop_of_length-le}
-use lib.Seq.{drop-cons, take_all}
 use borrow.Author.Tests.{lt-ltb, le-ltb}
 use Rattle.theory_counts.specs.Words.{fits}
 use Rattle.range.specs.Range.{joined}
-use Rattle.range.specs.States.{fit_row}
 
 -- a number of bits holds both words exactly where it holds all their bits
 pub or_below : (w x y : ℕ) → ltb (bit_or x y) (2 ^ w) ≡ (ltb x (2 ^ w) && ltb y (2 ^ w))
@@ -33,7 +29,7 @@ or_below w x y = go (dec_lt x (2 ^ w)) (dec_lt y (2 ^ w))
     go (no hx) d = le-ltb (bit_or x y) (2 ^ w) (omega (arith, left)) ∙ sym (rw (le-ltb x (2 ^ w) (omega arith)))
 
 joined_below : (w bits : ℕ) (ws : List ℕ) → ltb (joined bits ws) (2 ^ w) ≡ (ltb bits (2 ^ w) && fits w ws)
-unfolding joined fits
+unfolding fits
 joined_below w bits [] = sym (and-true (ltb bits (2 ^ w)))
 joined_below w bits (x ∷ ws) =
     joined_below w (bit_or bits x) ws
@@ -43,26 +39,6 @@ joined_below w bits (x ∷ ws) =
 -- all bits are below 2^w exactly where every word is
 pub all_below : (w : ℕ) (ws : List ℕ) → ltb (joined 0 ws) (2 ^ w) ≡ fits w ws
 all_below w ws = joined_below w 0 ws ∙ rw (lt-ltb 0 (2 ^ w) (pow_pos w))
-
--- the loop: the bits so far, joined by those of the words from i on
-abbrev pub Joining : List ℕ → ℕ → ℕ → Type 0
-Joining ws bits i = joined bits (drop i ws) ≡ joined 0 ws
-
-pub joining_step : (ws : List ℕ) (bits i : ℕ) → i < length ws → Joining ws bits i → Joining ws (bit_or bits (get_or ws i 0)) (i + 1)
-unfolding joined
-joining_step ws bits i lt h =
-    ap (λ (n : ℕ). joined (bit_or bits (get_or ws i 0)) (drop n ws)) (add-one i)
-    ∙ ap (joined bits) (sym (drop-cons ws i 0 lt))
-    ∙ h
-
-pub joining_end : (ws : List ℕ) (bits i : ℕ) → length ws ≤ i → Joining ws bits i → bits ≡ joined 0 ws
-unfolding joined
-joining_end ws bits i le h = ap (joined bits) (sym (drop_of_length-le ws le)) ∙ h
-
--- a row with no unused place
-pub fit_row_whole : (w n : ℕ) (row : List ℕ) → length row ≤ n → fit_row w n row ≡ fits w row
-unfolding fit_row fits
-fit_row_whole w n row le = rw (take_all n row le, drop_of_length-le row le) (and-true (fits w row))
 
 -- the whole product of two words of 32 bits has no more than 64
 pub product_below : {a b : ℕ} → a < 2 ^ 32 → b < 2 ^ 32 → a * b < 2 ^ 64

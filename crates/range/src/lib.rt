@@ -1,7 +1,7 @@
 // Range tests: of a word, of a row of words, and of a row of a state.
 #![tactic(auto)]
 
-ghost use Rattle.std.specs.Prelude.{◌≡◌, ◌&&◌, ◌^◌, ltb};
+ghost use Rattle.std.specs.Prelude.{◌≡◌, ◌^◌, ltb};
 ghost use Rattle.theory_counts.specs.Words.{fits};
 ghost use Rattle.range.specs.Range.{joined};
 ghost use Rattle.range.specs.States.{fit_row};
@@ -17,44 +17,20 @@ pub fn row_fits(w: u32, row: &[u32]) -> bool
 fn all_bits(words: &[u32]) -> u32
     ensures { result ≡ joined 0 words.now }
 {
-    let mut bits: u32 = 0;
-    let mut i = 0;
-    while i < words.len() {
-        bits = bits | words[i];
-        i += 1;
-    }
-    bits
+    words.iter().fold(0, |bits, word| bits | *word)
 }
 
 // Whether a word is below 2^w, for every w.
 pub fn below(w: u32, word: u32) -> bool
     ensures { result ≡ ltb word (2 ^ w) }
 {
-    if 32 <= w {
-        return true;
-    }
-    (word as u64) < (1u64 << w)
+    32 <= w || u64::from(word) < 1 << w
 }
 
 // 8 State, a row of a state. Only zero is below 2^0.
 pub fn fit_row(w: u32, n: usize, row: &[u32]) -> bool
     ensures { result ≡ fit_row w n row.now }
 {
-    if row.len() <= n {
-        return row_fits(w, row);
-    }
-    if row_fits(w, &row[..n]) {
-        return row_fits(0, &row[n..]);
-    }
-    false
-}
-
-// Whether two tests hold. A function, so that no branches meet in a caller's loop.
-pub fn both(first: bool, second: bool) -> bool
-    ensures { result ≡ (first && second) }
-{
-    if first {
-        return second;
-    }
-    false
+    let (words, unused) = row.split_at(n.min(row.len()));
+    row_fits(w, words) && row_fits(0, unused)
 }

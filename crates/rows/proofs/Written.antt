@@ -86,17 +86,15 @@ pub over_fits : (words old : List ℕ) → length words ≤ length old → over 
 unfolding over
 over_fits words old le = ap (λ (l : List ℕ). l ++ drop (length words) old) (take_all (length old) words le)
 
--- a row into which as many words as have a place are written, one by one
-pub over_written : (words old : List ℕ) (i : ℕ) → i ≡ min (length words) (length old) → written (λ j. get_or words j 0) i old ≡ over words old
+-- as many words as have a place, at once
+pub over_taken : (words old : List ℕ) (n : ℕ) → n ≡ min (length words) (length old) → take n words ++ drop n old ≡ over words old
 unfolding over
-over_written words old i e = go (dec_le (length words) (length old))
+over_taken words old n e = go (dec_le (length words) (length old))
   where
-    go : Dec (length words ≤ length old) → written (λ j. get_or words j 0) i old ≡ over words old
-    go (yes le) =
-        let all : length words ≡ i = omega arith in
-        ap₂ (λ (l r : List ℕ). l ++ r) (tabulate_all words i all ∙ sym (take_all (length old) words le)) (ap (λ (n : ℕ). drop n old) (sym all))
-    go (no gt) =
-        let all : length old ≡ i = omega arith in
-        ap₂ (λ (l r : List ℕ). l ++ r)
-        (tabulate_take words i (omega arith) ∙ ap (λ (n : ℕ). take n words) (sym all))
-        (drop_of_length-le old {i = i} (omega arith) ∙ sym (drop_of_length-le old {i = length words} (omega arith)))
+    go : Dec (length words ≤ length old) → take n words ++ drop n old ≡ over words old
+    go (yes le) = ap₂ (λ (l r : List ℕ). l ++ r) (take_all n words (omega arith) ∙ sym (take_all (length old) words le)) (ap (λ (i : ℕ). drop i old) (omega arith))
+    go (no gt) = ap₂ (λ (l r : List ℕ). l ++ r) (ap (λ (i : ℕ). take i words) (omega arith)) (drop_of_length-le old {i = n} (omega arith) ∙ sym (drop_of_length-le old {i = length words} (omega arith)))
+
+-- the same, written one by one
+pub over_written : (words old : List ℕ) (i : ℕ) → i ≡ min (length words) (length old) → written (λ j. get_or words j 0) i old ≡ over words old
+over_written words old i e = ap (λ (l : List ℕ). l ++ drop i old) (tabulate_take words i (omega arith)) ∙ over_taken words old i e

@@ -3,19 +3,10 @@
 
 use std::io;
 
-fn text(rt: &impl Print, bytes: &[u8]) -> io::Result<()> {
-    rt.write_all(bytes)
-}
-
-// A digest word after a space.
-fn word(rt: &impl Print, value: u32) -> io::Result<()> {
-    print!(rt; " {value:08x}")
-}
-
 // The line of one case; an output of two places is enough for each of them.
 fn line(
     rt: &impl Print,
-    letter: &[u8],
+    letter: char,
     w: u32,
     b: u32,
     n: u32,
@@ -23,23 +14,20 @@ fn line(
     key: &[u32],
 ) -> io::Result<()> {
     let mut out = [0u32; 2];
-    let answer = digest_words::digest_words(w, b, n, message, key, &mut out);
-    text(rt, letter)?;
-    print!(rt; " {answer}")?;
-    word(rt, out[0])?;
+    let answer = answers::answer(digest_words::digest_words(w, b, n, message, key, &mut out));
+    let [first, second] = out;
     if n == 2 {
-        word(rt, out[1])?;
+        println!(rt; "{letter} {answer} {first:08x} {second:08x}")
+    } else {
+        println!(rt; "{letter} {answer} {first:08x}")
     }
-    println!(rt)
 }
 
 fn main(rt: HostRuntime) -> io::Result<()> {
-    let full = 0xffff_ffff;
-    line(&rt, b"A", 8, 8, 1, &[1], &[5, 200])?;
-    line(&rt, b"B", 8, 8, 1, &[255], &[255, 255])?;
-    line(&rt, b"C", 8, 8, 2, &[3, 7], &[10, 20, 100, 250])?;
-    line(&rt, b"D", 8, 4, 2, &[3, 7], &[10, 20, 100, 250])?;
-    line(&rt, b"E", 32, 32, 1, &[full], &[full, full])?;
-    let none = [0u32; 0];
-    line(&rt, b"F", 8, 8, 1, &none, &[7])
+    line(&rt, 'A', 8, 8, 1, &[1], &[5, 200])?;
+    line(&rt, 'B', 8, 8, 1, &[255], &[255, 255])?;
+    line(&rt, 'C', 8, 8, 2, &[3, 7], &[10, 20, 100, 250])?;
+    line(&rt, 'D', 8, 4, 2, &[3, 7], &[10, 20, 100, 250])?;
+    line(&rt, 'E', 32, 32, 1, &[u32::MAX], &[u32::MAX, u32::MAX])?;
+    line(&rt, 'F', 8, 8, 1, &[], &[7])
 }

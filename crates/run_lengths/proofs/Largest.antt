@@ -61,15 +61,15 @@ module _ (f : ℕ → ℕ) where
           times = sym (add-zero places) ∙ sum_next (reaches every_place f largest) n places 0 l.times (reaches_not largest n (λ e. omega arith));
         }
 
-    pub largest_again : x ≡ largest → Largest every_place f (n + 1) x first (places + 1)
+    pub largest_again : x ≡ largest → Largest every_place f (n + 1) largest first (places + 1)
     largest_again e =
         record {
           within = omega (arith, l.within);
           is_named = refl;
-          reached = l.reached ∙ sym e;
-          most = λ a h p. below_more (λ a. f a ≤ x) n (λ a h. omega (arith, l.most a h refl)) (omega arith) a h;
-          before = λ a h p. omega (arith, l.before a h refl);
-          times = sum_next (reaches every_place f x) n places 1 (l.times ∙ ap (λ (y : ℕ). sum_to n (reaches every_place f y)) (sym e)) (reaches_it x n (sym is));
+          reached = l.reached;
+          most = λ a h p. below_more (λ a. f a ≤ largest) n (λ a h. l.most a h refl) (omega arith) a h;
+          before = l.before;
+          times = sum_next (reaches every_place f largest) n places 1 l.times (reaches_it largest n (sym is ∙ e));
         }
 
     -- no more places than there are

@@ -12,7 +12,7 @@ use Rattle.theory_counts.specs.Words.{fits}
 use Rattle.theory_digest.specs.Digest.{whole_sum, one_word, full_words, kept, digest}
 use Rattle.theory_counts.specs.Count.{sum_to, count, over_rows, as_number, same_row}
 use Rattle.theory_digest.specs.Settings.{InRange}
-use Rattle.theory_counts.proofs.Sums.{sum_cong, sum_cong_below, sum_prod}
+use Rattle.theory_counts.proofs.Sums.{sum_cong, sum_cong_below}
 use Rattle.rows.specs.Written.{tabulate}
 use Rattle.rows.proofs.Written.{tabulate_at}
 use Rattle.answers.specs.Table.{bad_byte_width}
@@ -102,37 +102,35 @@ one_key byte k₁ k₂ k₃ =
     ap₂ (λ (x y : List ℕ). as_number (eqb (match_answer 1 x y) 100)) (one_digest [] (k₁ ∷ k₂ ∷ [])) (one_digest (byte ∷ []) (k₁ ∷ k₂ ∷ k₃ ∷ []))
     ∙ ap as_number (match_agrees 1 (digest_word [] (k₁ ∷ k₂ ∷ []) ∷ []) (digest_word (byte ∷ []) (k₁ ∷ k₂ ∷ k₃ ∷ []) ∷ []) (omega arith) (omega arith) refl refl ∙ and-true _)
 
--- how many keys with these first two words match; i numbers the two
-pub keys_after : ℕ → ℕ → ℕ
-keys_after byte i = sum_to 256 (match_under byte (i / 256) (i % 256))
+-- how many keys with these first two words match
+pub keys_after : ℕ → ℕ → ℕ → ℕ
+keys_after byte k₁ k₂ = sum_to 256 (match_under byte k₁ k₂)
 
-pub in_order : (byte : ℕ) → keys_of byte ≡ sum_to 65536 (keys_after byte)
-unfolding keys_of byte_keys_that_match byte_keys count over_rows keys_after words_of in_words closed count_of words_from
-in_order byte =
-    sum_cong 256 (λ k₁. sum_cong 256 (λ k₂. sum_cong 256 (λ k₃. one_key byte k₁ k₂ k₃)))
-    ∙ sym
-    (sum_prod 256 256 (keys_after byte)
-    ∙ sum_cong 256 (λ k₁. sum_cong_below 256 _ _ (λ k₂ h. parts k₁ k₂ h)))
-  where
-    parts : (k₁ k₂ : ℕ) → k₂ < 256 → sum_to 256 (match_under byte ((k₁ * 256 + k₂) / 256) ((k₁ * 256 + k₂) % 256)) ≡ sum_to 256 (match_under byte k₁ k₂)
-    parts k₁ k₂ h =
-        let q : (k₁ * 256 + k₂) / 256 ≡ k₁ = omega arith in
-        let r : (k₁ * 256 + k₂) % 256 ≡ k₂ = omega arith in
-        rw (q, r)
+-- and with this first word
+pub keys_from : ℕ → ℕ → ℕ
+keys_from byte k₁ = sum_to 256 (keys_after byte k₁)
+
+pub first_word_done : (byte k₁ : ℕ) → sum_to 256 (keys_after byte k₁) ≡ keys_from byte k₁
+unfolding keys_from
+first_word_done byte k₁ = refl
+
+pub in_order : (byte : ℕ) → keys_of byte ≡ sum_to 256 (keys_from byte)
+unfolding keys_of byte_keys_that_match byte_keys count over_rows keys_after keys_from words_of in_words closed count_of words_from
+in_order byte = sum_cong 256 (λ k₁. sum_cong 256 (λ k₂. sum_cong 256 (λ k₃. one_key byte k₁ k₂ k₃)))
 
 -- a turn of the loop over the first two words: the messages' digests under them and a last word of 0, and what each last word adds
-pub one_turn : (byte i wanted start r : ℕ) (lasts : List ℕ) → lasts ≡ tabulate last_word 256
-    → wanted ≡ digest_word [] (i / 256 ∷ i % 256 ∷ [])
-    → start ≡ digest_word (byte ∷ []) (i / 256 ∷ i % 256 ∷ 0 ∷ [])
+pub one_turn : (byte k₁ k₂ wanted start r : ℕ) (lasts : List ℕ) → lasts ≡ tabulate last_word 256
+    → wanted ≡ digest_word [] (k₁ ∷ k₂ ∷ [])
+    → start ≡ digest_word (byte ∷ []) (k₁ ∷ k₂ ∷ 0 ∷ [])
     → r ≡ sum_to 256 (agrees_at wanted start lasts)
-    → r ≡ keys_after byte i
+    → r ≡ keys_after byte k₁ k₂
 unfolding keys_after agrees_at match_under LastWordAdds
-one_turn byte i wanted start r lasts row w s e =
+one_turn byte k₁ k₂ wanted start r lasts row w s e =
     e
     ∙ sum_cong_below 256 _ _
     (λ k h.
     let last : get_or lasts k 0 ≡ last_word k = ap (λ (l : List ℕ). get_or l k 0) (row ∙ sym (append-nil (tabulate last_word 256))) ∙ tabulate_at last_word 256 k [] h in
-    ap₂ (λ (x y : ℕ). as_number (eqb x y)) w (ap₂ (λ (x y : ℕ). (x + y) % 256) s last ∙ sym (last_word_adds byte (i / 256) (i % 256) k)))
+    ap₂ (λ (x y : ℕ). as_number (eqb x y)) w (ap₂ (λ (x y : ℕ). (x + y) % 256) s last ∙ sym (last_word_adds byte k₁ k₂ k)))
 
 -- the claims' bound holds of every message
 pub bounded : MatchesBounded

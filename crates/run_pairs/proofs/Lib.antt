@@ -1,3 +1,3 @@
 pub mod Laws
 pub mod Row
-pub mod Compared
+pub mod Calls

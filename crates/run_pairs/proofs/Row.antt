@@ -1,53 +1,65 @@
--- A row that is written from the front, the row of the pairs' numbers, and its first largest number.
-use mathlib.Core.Path.{◌≡◌, refl, ◌∙◌, ap, sym, subst⁻¹}
-use mathlib.Core.Bool.{Bool, true, false}
+-- A row that a closure makes, a count along a row, the row of the pairs' numbers, and its first largest number.
+use mathlib.Core.Path.{◌≡◌, refl, ◌∙◌, ap, ap₂, sym, subst, subst⁻¹}
+use mathlib.Core.Bool.{Bool, true, false, cond}
 use mathlib.Core.List.{List}
-use Prim.Native.Nat.{ℕ, ◌+◌, ◌*◌, ◌/◌, ◌%◌, ◌≤◌, ◌<◌}
-use native.Mathlib.Nat.{le_refl, not-suc-le-zero}
+use mathlib.Core.Logic.{inl, inr}
+use Prim.Native.Nat.{ℕ, zero, suc, ◌+◌, ◌*◌, ◌/◌, ◌%◌, ◌≤◌, ◌<◌}
+use native.Mathlib.Numerals.{add-one}
 use native.Mathlib.Omega.{arith}
 use borrow.Author.Count.{below_more}
 use borrow.Author.Tests.{ne_eqb}
-use lib.ListN.{length, get_or, set, length-set}
+use denote.Param.Members.{Mut, Called}
+use lib.ListN.{length, get_or, set, take}
 use lib.Seq.{get_or-set_same, get_or-set_other}
+use Rattle.std.proofs.lemmas.Bool.{cases_lt}
+use Rattle.std.proofs.lemmas.List.{take_all}
+use Rattle.std.proofs.lemmas.List.Sums.{sum_by_more}
+use Rattle.std.specs.Array.{IsFromFnResult, IsFromFnResultFrom}
+use Rattle.std.specs.List.{count_by}
 use Rattle.theory_counts.specs.Count.{sum_to, as_number}
 use Rattle.theory_counts.specs.Largest.{reaches, Largest}
 use Rattle.theory_counts.proofs.Sums.{sum_cong_below}
 use Rattle.theory_pairs.specs.Search.{is_pair, of_pair, or_zero, cell_at, Filled, First, stands_at, LargestPair}
 
--- a row of n places of which the first i are right
-abbrev pub Written : {A : Type 0} → (ℕ → A → Type 0) → A → ℕ → List A → ℕ → Type 0
-Written P none n xs i = (length xs ≡ n) × ((j : ℕ) → j < i → P j (get_or xs j none))
+-- one place more of a row that is written from its front
+pub set_more : {A : Type 0} (P : ℕ → A → Type 0) (none : A) (xs : List A) (i : ℕ) (r : A) → i < length xs → P i r
+    → ((j : ℕ) → j < i → P j (get_or xs j none))
+    → (j : ℕ) → j < i + 1 → P j (get_or (set xs i r) j none)
+set_more P none xs i r h here before =
+    below_more (λ j. P j (get_or (set xs i r) j none)) i
+    (λ j less. subst⁻¹ (P j) (get_or-set_other xs i j r none (λ same. omega arith)) (before j less))
+    (subst⁻¹ (P i) (get_or-set_same xs i r none h) here)
 
--- one place more
-pub set_more : {A : Type 0} (P : ℕ → A → Type 0) (none : A) (n : ℕ) (xs : List A) (i : ℕ) (r : A) → i < n → P i r
-    → Written P none n xs i
-    → Written P none n (set xs i r) (i + 1)
-set_more P none n xs i r h here w = (
-  length-set xs i r ∙ w.0,
-  below_more (λ j. P j (get_or (set xs i r) j none)) i
-      (λ j less. subst⁻¹ (P j) (get_or-set_other xs i j r none (λ same. omega arith)) (w.1 j less))
-      (subst⁻¹ (P i) (get_or-set_same xs i r none (omega arith)) here),
-)
+-- what one closure, called at each place, gives
+module _ {F B : Type 0} (g : Mut F (ℕ × Unit {0}) B) (f : F) (P : ℕ → B → Type 0) (gives : (i : ℕ) (y : B) (q : F) → Called g f (i, tt) y q → (q ≡ f) × P i y) where
+  made_from : (ys : List B) (k n : ℕ) (p : F) → p ≡ f → IsFromFnResultFrom g p ys k n → (i : ℕ) (d : B) → k ≤ i → i < k + n → P i (get_or ys i d)
+  made_from ys k zero p e made i d above below = absurd (omega arith)
+  made_from ys k (suc n) p e made i d above below =
+      let call : (made.0 ≡ f) × P k made.1 = gives k made.1 made.0 (subst (λ (h : F). Called g h (k, tt) made.1 made.0) e made.3) in
+      elim (cases_lt k i) [
+        | inl more ↦ made_from ys (k + 1) n made.0 call.0 made.4 i d (omega arith) (omega arith)
+        | inr last ↦ let same : k ≡ i = omega arith in subst (λ (j : ℕ). P j (get_or ys j d)) same (subst⁻¹ (P k) (made.2.1 d) call.1)
+      ]
 
-module _ (xs : List ℕ) where
-  pub first_start : First xs 1 0
-  first_start =
-      record {
-        within = omega arith;
-        most = below_more _ _ (λ j h. absurd (not-suc-le-zero h)) (le_refl _);
-        before = λ j h. absurd (not-suc-le-zero h);
-      }
+  pub made : (ys : List B) (n : ℕ) → IsFromFnResult g f ys n → (i : ℕ) (d : B) → i < n → P i (get_or ys i d)
+  made ys n r i d below = made_from ys 0 n f refl r.each i d (omega arith) (omega arith)
 
-  pub first_new : (i at : ℕ) → First xs i at → get_or xs at 0 < get_or xs i 0 → First xs (i + 1) i
-  first_new i at f h =
-      record {
-        within = omega arith;
-        most = below_more _ _ (λ j below. omega (arith, f.most j below)) (le_refl _);
-        before = λ j below. omega (arith, f.most j below);
-      }
+-- a count of the elements that pass, by their places
+one_or_none : (b : Bool) → cond b 1 0 ≡ as_number b
+unfolding as_number
+one_or_none true = refl
+one_or_none false = refl
 
-  pub first_kept : (i at : ℕ) → First xs i at → get_or xs i 0 ≤ get_or xs at 0 → First xs (i + 1) at
-  first_kept i at f h = record { within = omega (arith, f.within); most = below_more _ _ f.most h; before = f.before }
+by_places : {X : Type 0} (p : X → Bool) (none : X) (xs : List X) (n : ℕ) → n ≤ length xs
+    → count_by p (take n xs) ≡ sum_to n (λ i. as_number (p (get_or xs i none)))
+unfolding sum_to
+by_places p none xs zero h = refl
+by_places p none xs (suc n) h =
+    (rw add-one at (sum_by_more (λ x. cond (p x) 1 0) xs n none (omega arith)))
+    ∙ ap₂ ◌+◌ (by_places p none xs n (omega arith)) (one_or_none (p (get_or xs n none)))
+
+pub counted : {X : Type 0} (p : X → Bool) (none : X) (xs : List X) (n : ℕ) → length xs ≡ n → count_by p xs ≡ sum_to n (λ i. as_number (p (get_or xs i none)))
+counted p none xs n long = ap (count_by p) (sym (take_all n xs (omega arith))) ∙ by_places p none xs n (omega arith)
 
 module _ (f : ℕ → ℕ → ℕ) where
   -- no place but a pair's has a number

@@ -1,32 +1,32 @@
--- A reading: State, Tray, or the held sums, kept.
-use mathlib.Core.Path.{◌≡◌, refl, sym, ◌∙◌}
-use mathlib.Core.Bool.{Bool, true, false, not}
+-- A reading of a state: State, and then what its sums' own reading answers and leaves.
+use mathlib.Core.Path.{◌≡◌, sym, ap, ◌∙◌}
+use mathlib.Core.Bool.{Bool, not}
 use mathlib.Core.List.{List, [], ◌∷◌}
 use Prim.Native.Nat.{ℕ}
-use native.Mathlib.Nat.{suc-ne-zero}
 use lib.ListN.{length}
-use Rattle.rows.specs.Written.{over}
-use Rattle.answers.specs.Answers.{first_of, afterwards}
-use Rattle.answers.specs.Table.{state_test, tray_test, small_tray}
-use Rattle.answers.proofs.Rows.{refused, accepted}
-use Rattle.answers.proofs.Validation.{stops, stops_not, passes, passes_not, none_holds, tray_passed}
+use Rattle.std.specs.Prelude.{Result, IsErrAnd}
+use Rattle.answers.specs.declared.Refusal.{Refusal}
+use Rattle.answers.specs.Answers.{Test, test, first_of, Validates, afterwards}
+use Rattle.answers.specs.Refusals.{number, answer_of}
+use Rattle.answers.specs.Table.{state_test, tray_test}
+use Rattle.answers.proofs.Refused.{some_number, first_stops, rest_decides, same_refusal, states_all}
+use Rattle.answers.proofs.Rows.{refused}
 use Rattle.state_sums.specs.declared.Accumulator.{Accumulator}
 use Rattle.state_sums.specs.State.{reading}
-use Rattle.state_sums.proofs.Shared.{read_written}
 
--- r is whether the state is fit, small whether the output has too few places
-module _ (a : Accumulator) (out : List ℕ) {fit r : Bool} (e : r ≡ fit) where
-  abbrev answer : ℕ
-  answer = first_of (state_test fit ∷ tray_test a.n (length out) ∷ []) 0
+-- t is whether the state is fit, as the code has it
+module _ (a : Accumulator) (out : List ℕ) {fit t : Bool} (e : t ≡ fit) where
+  abbrev tests : List Test
+  tests = state_test fit ∷ tray_test a.n (length out) ∷ []
 
-  pub unfit : not r ≡ true → (8 ≡ answer) × (out ≡ afterwards answer (reading a) out)
-  unfit none = refused (reading a) out (sym (stops_not 8 _ 0 e none)) (suc-ne-zero 7)
+  pub unfit : (r : Result Unit Refusal) (refusal : Refusal) → IsErrAnd r (λ x. x ≡ refusal) → Validates (test 8 (not t) ∷ []) (number refusal)
+      → (answer_of r ≡ first_of tests 0) × (out ≡ afterwards (first_of tests 0) (reading a) out)
+  unfit r refusal is j =
+      let same = same_refusal r refusal is in
+      refused (reading a) out (same ∙ states_all tests _ (rw (← e) (first_stops _ _ refusal j))) (λ z. some_number refusal (sym same ∙ z))
 
-  module _ (some : not r ≡ false) {small : Bool} (f : small ≡ small_tray a.n (length out)) where
-    pub no_room : small ≡ true → (6 ≡ answer) × (out ≡ afterwards answer (reading a) out)
-    no_room less = refused (reading a) out (sym (passes_not 8 _ 0 e some (stops 6 [] 0 f less))) (suc-ne-zero 5)
-
-    pub is_read : small ≡ false → (row : List ℕ) → row ≡ over (reading a) out → (0 ≡ answer) × (row ≡ afterwards answer (reading a) out)
-    is_read room row wrote =
-        accepted (reading a) out (sym (passes_not 8 _ 0 e some (passes 6 [] 0 f room (none_holds 0)))) row refl
-        (read_written a out row (tray_passed a.n (length out) (sym f ∙ room)) wrote)
+  pub is_read : (r : ℕ) (row : List ℕ) → Validates (test 8 (not t) ∷ []) 0 → Validates (tray_test a.n (length out) ∷ []) r → row ≡ afterwards r (reading a) out
+      → (r ≡ first_of tests 0) × (row ≡ afterwards (first_of tests 0) (reading a) out)
+  is_read r row passes j wrote =
+      let answered = states_all tests r (rw (← e) (rest_decides _ _ r passes j)) in
+      (answered, wrote ∙ ap (λ (x : ℕ). afterwards x (reading a) out) answered)

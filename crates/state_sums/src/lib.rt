@@ -1,13 +1,15 @@
 // What the states of sums share: settings, a count of words, and n full-width sums in eight places.
 #![tactic(auto)]
 
-ghost use Rattle.std.specs.Prelude.{◌≡◌};
+ghost use Rattle.std.specs.Prelude.{◌≡◌, [], ◌∷◌, length};
 ghost use Rattle.rows.specs.Written.{over};
-ghost use Rattle.answers.specs.Answers.{Validates};
+ghost use Rattle.answers.specs.Answers.{Validates, afterwards};
+ghost use Rattle.answers.specs.Refusals.{answer_of};
+ghost use Rattle.answers.specs.Table.{tray_test};
 ghost use Rattle.state_sums.specs.State.{settings_tests, begun, fit_sums, reading};
 ghost use Rattle.state_sums.specs.Rows.{sums_of, sums_row};
 
-use answers::table;
+use answers::{Refusal, table};
 
 // The settings, a count, and n full-width sums. Unused places are zero.
 #[derive(Clone, Copy)]
@@ -21,6 +23,7 @@ pub struct Accumulator {
 
 impl Accumulator {
     // Sums of no words yet. With zeros alone it is what a refused opening gives.
+    #[tactic(auto, unfolding(crate::specs::State::begun))]
     pub fn new(w: u32, b: u32, n: u32, count: u32) -> Accumulator
         ensures { result ≡ begun w b n count }
     {
@@ -34,28 +37,34 @@ impl Accumulator {
     }
 
     // Whether it passes test 8, with the most that the count may be.
-    pub fn fit(self, most: usize) -> bool
-        ensures { result ≡ fit_sums most self }
+    pub fn fit(&self, most: usize) -> bool
+        ensures { result ≡ fit_sums most self.now }
     {
-        if settings(self.width, self.kept, self.n) != 0 {
-            return false;
-        }
-        if table::too_long(most, self.count as usize) {
-            return false;
-        }
-        let sums = self.sums;
-        range::fit_row(self.width, self.n as usize, &sums)
+        settings(self.width, self.kept, self.n).is_ok()
+            && table::long(most, self.count as usize).is_ok()
+            && range::fit_row(self.width, self.n as usize, &self.sums)
     }
 
     // The n sums with b bits kept into the first places of out, as many as it has.
-    pub fn read(self, out: &mut [u32])
-        ensures { out.new ≡ over (reading self) out.old }
+    #[tactic(auto, unfolding(crate::specs::State::reading))]
+    pub fn read(&self, out: &mut [u32])
+        ensures { out.new ≡ over (reading self.now) out.old }
     {
-        let sums = self.sums;
-        sum_terms::write_kept(self.kept, self.n as usize, sums, out);
+        sum_terms::write_kept(self.kept, self.n as usize, self.sums, out);
+    }
+
+    // The same into a row with a place for each of them, else Tray and the row as it was.
+    pub fn try_read(&self, out: &mut [u32]) -> Result<(), Refusal>
+        ensures { (Validates (tray_test self.now.n (length out.old) ∷ []) (answer_of result))
+            × (out.new ≡ afterwards (answer_of result) (reading self.now) out.old) }
+    {
+        table::tray(self.n as usize, out.len())?;
+        self.read(out);
+        Ok(())
     }
 
     // What a row's first twelve words hold, 0 past its end.
+    #[tactic(auto, unfolding(crate::specs::Rows::sums_of))]
     pub fn from_row(row: &[u32]) -> Accumulator
         ensures { result ≡ sums_of row.now }
     {
@@ -71,28 +80,19 @@ impl Accumulator {
     }
 
     // Its twelve words over the row's first places, as many as it has.
-    pub fn write_row(self, row: &mut [u32])
-        ensures { row.new ≡ over (sums_row self) row.old }
+    pub fn write_row(&self, row: &mut [u32])
+        ensures { row.new ≡ over (sums_row self.now) row.old }
     {
-        let head = [self.width, self.kept, self.n, self.count];
-        let sums = self.sums;
-        state_rows::place(row, 0, &head);
-        state_rows::place(row, 4, &sums);
+        state_rows::place(row, 0, &[self.width, self.kept, self.n, self.count]);
+        state_rows::place(row, 4, &self.sums);
     }
 }
 
-// Width, Kept, Count: the first of them that refuses, else 0.
-pub fn settings(w: u32, b: u32, n: u32) -> u32
-    ensures { Validates (settings_tests w b n) result }
+// Width, Kept, Count.
+pub fn settings(w: u32, b: u32, n: u32) -> Result<(), Refusal>
+    ensures { Validates (settings_tests w b n) (answer_of result) }
 {
-    if table::bad_width(w) {
-        return answers::WIDTH;
-    }
-    if table::bad_kept(w, b) {
-        return answers::KEPT;
-    }
-    if table::bad_count(n) {
-        return answers::COUNT;
-    }
-    0
+    table::width(w)?;
+    table::kept(w, b)?;
+    table::count(n)
 }

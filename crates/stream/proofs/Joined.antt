@@ -1,13 +1,12 @@
 -- The held key words and the pushed ones: how they are joined, what the sums over the joint row give, and the last n of them.
 use mathlib.Core.Path.{◌≡◌, refl, sym, ap, ap₂, ◌∙◌}
 use mathlib.Core.Bool.{Bool, true, ◌&&◌, and_assoc, and_self}
-use mathlib.Core.List.{List, [], ◌++◌, append_assoc, append-nil}
+use mathlib.Core.List.{List, ◌++◌, append_assoc}
 use Prim.Native.Nat.{ℕ, ◌+◌, ◌-◌, min, ◌≤◌, ◌<◌}
 use native.Mathlib.Omega.{arith}
-use lib.ListN.{length, take, drop, length-append, length-take, length-drop, take-append-drop, drop_of_length-le}
+use lib.ListN.{length, take, drop, length-append, length-take, length-drop, take-append-drop}
 use lib.Seq.{take_at, drop_at, take_all, drop-drop, drop-append-le, drop-append-add, length-take-le}
-use Rattle.rows.specs.Written.{over}
-use Rattle.rows.proofs.Written.{over_fits}
+use borrow.Rule.Slice.PartMut.{put_mid}
 use Rattle.rows.proofs.Parts.{part_to_end}
 use Rattle.theory_counts.specs.Words.{fits}
 use Rattle.theory_counts.proofs.Fits.{fits_append}
@@ -16,24 +15,13 @@ use Rattle.sum_terms.proofs.Summable.{Sums, middle, checked_fit_lem}
 use Rattle.sum_terms.proofs.Each.{sums_more, checked_sums_lem, checked_append}
 use Rattle.stream.specs.State.{last_words}
 
--- a row whose first n places and then the next ones are written
-pub two_copies : (n k : ℕ) (held ks zeros one two : List ℕ)
-    → length held ≡ n
-    → n + k ≡ length zeros
-    → length ks ≤ k
-    → one ≡ over held zeros
-    → two ≡ over ks (take k (drop n one))
-    → take n one ++ (two ++ drop k (drop n one)) ≡ (held ++ ks) ++ drop (n + length ks) zeros
-two_copies n k held ks zeros one two len all room e₁ e₂ =
+-- a row whose first n places and then the next k ones are written
+pub two_copies : (n k : ℕ) (held ks zeros one two : List ℕ) → length held ≡ n → k ≡ length ks → one ≡ held → two ≡ ks
+    → put_mid n k (one ++ drop n zeros) two ≡ (held ++ ks) ++ drop (n + length ks) zeros
+two_copies n k held ks zeros one two len count e₁ e₂ =
     let rest : List ℕ = drop n zeros in
-    let long : length rest ≡ k = length-drop n zeros ∙ omega arith in
-    let first : one ≡ held ++ rest = e₁ ∙ over_fits held zeros (omega arith) ∙ ap (λ (m : ℕ). held ++ drop m zeros) len in
-    let after : drop n one ≡ rest = ap (drop n) first ∙ drop_at held rest n len in
-    let place : take k (drop n one) ≡ rest = ap (take k) after ∙ take_all k rest (omega arith) in
-    let second : two ≡ ks ++ drop (n + length ks) zeros = e₂ ∙ ap (over ks) place ∙ over_fits ks rest (omega arith) ∙ ap (λ (l : List ℕ). ks ++ l) (drop-drop (length ks) n zeros) in
-    let end : drop k (drop n one) ≡ [] = ap (drop k) after ∙ drop_of_length-le rest {i = k} (omega arith) in
-    ap₂ (λ (x y : List ℕ). x ++ y) (ap (take n) first ∙ take_at held rest n len) (ap₂ (λ (x y : List ℕ). x ++ y) second end ∙ append-nil (ks ++ drop (n + length ks) zeros))
-    ∙ sym (append_assoc held ks (drop (n + length ks) zeros))
+    let after : drop k rest ≡ drop (n + length ks) zeros = drop-drop k n zeros ∙ ap (λ (m : ℕ). drop (n + m) zeros) count in
+    rw (e₁, e₂, take_at held rest n len, drop_at held rest n len, after) (sym (append_assoc held ks (drop (n + length ks) zeros)))
 
 -- the last n of the held and then the pushed words start after as many as were pushed
 module _ (n : ℕ) (held ks : List ℕ) (len : length held ≡ n) where

@@ -3,6 +3,9 @@ use mathlib.Core.Path.{◌≡◌, sym, ap₂, ◌∙◌}
 use mathlib.Core.List.{List, ◌++◌}
 use Prim.Native.Nat.{ℕ, ◌+◌}
 use lib.ListN.{length}
+use Rattle.std.specs.Prelude.{Result, Ok, Err}
+use Rattle.std.specs.Result.{result_unwrap_or, ResultUnwrapsOrElse}
+use Rattle.answers.specs.declared.Refusal.{Refusal}
 use Rattle.range.specs.States.{padded}
 use Rattle.range.proofs.States.{held_length}
 use Rattle.sum_terms.specs.Sums.{add_sums, checked_sums}
@@ -11,7 +14,7 @@ use Rattle.state_sums.specs.declared.Accumulator.{Accumulator}
 use Rattle.state_sums.specs.State.{held_sums, begun}
 use Rattle.state_sums.proofs.Shared.{Good, updated_from}
 use Rattle.stream.specs.declared.Stream.{Stream}
-use Rattle.stream.specs.State.{held_keys, last_words, pushed, opened}
+use Rattle.stream.specs.State.{held_keys, last_words, pushed, opened, no_stream}
 use Rattle.stream.proofs.Valid.{Takes}
 use Rattle.stream.proofs.Joined.{held_sums_lem}
 
@@ -41,3 +44,8 @@ pushed_from s ms ks keys sums t keys_eight sums-eight ek es =
     (updated_from 65536 a good (a.count + length ms) added count sums
     (es ∙ checked_sums_lem a.width a.n ms (held_keys s ++ ks) a.sums (held_sums_lem _ _ (held_keys s) ms ks r.some_width r.width r.some_words r.words held (sym t.ready.words))))
     ek
+
+-- an opening's state, or the all-zero one
+pub made_or_none : (r : Result Stream Refusal) (s : Stream) → ResultUnwrapsOrElse r (λ s. s ≡ no_stream) s → s ≡ result_unwrap_or r no_stream
+made_or_none (Ok x) s e = e
+made_or_none (Err x) s e = e

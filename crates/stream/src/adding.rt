@@ -14,18 +14,15 @@ pub(crate) fn pushed(s: Stream, sums: [u32; 8], message: &[u32], key: &[u32]) ->
         × (sums ≡ checked_sums s.held.width s.held.n message.now (held_keys s ++ key.now) s.held.sums) }
     ensures { result ≡ pushed s message.now key.now }
 {
-    let words = message.len() as u32;
-    let count = s.held.count + words;
-    let before = s.keys;
-    let keys = keys::last(s.held.n as usize, before, key);
-    let held = Accumulator {
-        width: s.held.width,
-        kept: s.held.kept,
-        n: s.held.n,
-        count,
-        sums,
-    };
-    Stream { held, keys }
+    let count = s.held.count + message.len() as u32;
+    Stream {
+        held: Accumulator {
+            count,
+            sums,
+            ..s.held
+        },
+        keys: keys::last(s.held.n as usize, &s.keys, key),
+    }
 }
 
 // Adds to the n sums what the message adds under the held and then the pushed key words, and answers whether its words and
@@ -34,27 +31,27 @@ pub(crate) fn pushed(s: Stream, sums: [u32; 8], message: &[u32], key: &[u32]) ->
 pub(crate) fn add_part(
     w: u32,
     n: u32,
-    held: [u32; 8],
+    held: &[u32; 8],
     message: &[u32],
     key: &[u32],
-    sums: &mut [u32],
+    sums: &mut [u32; 8],
 ) -> bool
     requires { (1 ≤ w)
         × (w ≤ 32)
         × (1 ≤ n)
         × (n ≤ 8)
         × (length message.now ≡ length key.now)
-        × (fits w (take n held) ≡ true) }
+        × (fits w (take n held.now) ≡ true) }
     ensures { (result ≡ (fits w message.now && fits w key.now))
-        × (sums.new ≡ checked_sums w n message.now (take n held ++ key.now) sums.old) }
+        × (sums.new ≡ checked_sums w n message.now (take n held.now ++ key.now) sums.old) }
 {
     let words = n as usize;
-    let first = rows::lesser(words, key.len());
+    let first = words.min(key.len());
     let joint = keys::join(words, held, &key[..first]);
     let begun = sum_words::add_sums(w, n, true, &message[..first], &joint, sums);
     if key.len() < words {
         return begun;
     }
     let ended = sum_words::add_sums(w, n, true, &message[first..], key, sums);
-    range::both(begun, ended)
+    begun & ended
 }

@@ -1,12 +1,16 @@
-// A stream whose state is lent as a row of words. A refused call leaves every row as it was.
+// A stream whose state is lent as a row of words. A refused call leaves every row as it was. Incremental digests have three such
+// calls too, of two to four lines each: a trait for both would be longer.
 #![tactic(auto)]
 
-ghost use Rattle.std.specs.Prelude.{◌≡◌, length};
+ghost use Rattle.std.specs.Prelude.{◌≡◌, [], ◌∷◌, length, IfOk};
 ghost use Rattle.rows.specs.Written.{over};
+ghost use Rattle.answers.specs.Answers.{Validates};
+ghost use Rattle.answers.specs.Refusals.{answer_of};
+ghost use Rattle.answers.specs.Table.{state_test};
 ghost use Rattle.stream_rows.specs.Rows.{row_of, state_of, is_stream};
 ghost use Rattle.stream_rows.specs.Calls.{open_row_answer, open_row, push_row_answer, push_row, read_row_answer, read_row_out};
 
-use answers::table;
+use answers::{Refusal, table};
 use state_sums::Accumulator;
 use stream::{Stream, validation};
 
@@ -14,79 +18,55 @@ use stream::{Stream, validation};
 const WORDS: usize = 21;
 
 // Opens a stream over the row's first words; those beyond keep what they held.
-pub fn open(w: u32, b: u32, n: u32, key: &[u32], state: &mut [u32]) -> u32
-    ensures { (result ≡ open_row_answer w b n key.now state.old)
+pub fn open(w: u32, b: u32, n: u32, key: &[u32], state: &mut [u32]) -> Result<(), Refusal>
+    ensures { (answer_of result ≡ open_row_answer w b n key.now state.old)
         × (state.new ≡ open_row w b n key.now state.old) }
 {
-    let answer = validation::opening(w, b, n, key);
-    if answer != 0 {
-        return answer;
-    }
-    if table::small_tray(WORDS, state.len()) {
-        return answers::TRAY;
-    }
-    let opened = Stream::open(w, b, n, key);
-    if opened.answer != 0 {
-        return opened.answer;
-    }
-    write(state, opened.state);
-    0
+    validation::opening(w, b, n, key)?;
+    table::tray(WORDS, state.len())?;
+    let opened = Stream::open(w, b, n, key)?;
+    write(state, opened);
+    Ok(())
 }
 
 // A push on the stream that the row holds.
-pub fn push(state: &mut [u32], message: &[u32], key: &[u32]) -> u32
-    ensures { (result ≡ push_row_answer state.old message.now key.now)
+pub fn push(state: &mut [u32], message: &[u32], key: &[u32]) -> Result<(), Refusal>
+    ensures { (answer_of result ≡ push_row_answer state.old message.now key.now)
         × (state.new ≡ push_row state.old message.now key.now) }
 {
-    if !is_stream(state) {
-        return answers::STATE;
-    }
-    let pushed = state_of(state).push(message, key);
-    if pushed.answer != 0 {
-        return pushed.answer;
-    }
-    write(state, pushed.state);
-    pushed.answer
+    let mut stream = from_row(state)?;
+    stream.push(message, key)?;
+    write(state, stream);
+    Ok(())
 }
 
 // A reading of the stream that the row holds.
-pub fn read(state: &[u32], out: &mut [u32]) -> u32
-    ensures { (result ≡ read_row_answer state.now out.old)
+pub fn read(state: &[u32], out: &mut [u32]) -> Result<(), Refusal>
+    ensures { (answer_of result ≡ read_row_answer state.now out.old)
         × (out.new ≡ read_row_out state.now out.old) }
 {
-    if !is_stream(state) {
-        return answers::STATE;
-    }
-    state_of(state).read(out)
+    from_row(state)?.read(out)
 }
 
-// Whether a row has a stream's words, and a zero in the place not in use.
-fn is_stream(row: &[u32]) -> bool
-    ensures { result ≡ is_stream row.now }
+// The stream that a row holds: a stream's words, and a zero in the place not in use.
+fn from_row(row: &[u32]) -> Result<Stream, Refusal>
+    ensures { (Validates (state_test (is_stream row.now) ∷ []) (answer_of result)) × (IfOk result (λ s. s ≡ state_of row.now)) }
 {
-    if row.len() != WORDS {
-        return false;
-    }
-    state_rows::word(row, 20) == 0
-}
-
-// The state that a row holds.
-fn state_of(row: &[u32]) -> Stream
-    ensures { result ≡ state_of row.now }
-{
-    let held = Accumulator::from_row(row);
-    let mut keys = [0u32; 8];
+    Refusal::State.check(row.len() != WORDS)?;
+    Refusal::State.check(state_rows::word(row, 20) != 0)?;
+    let mut keys = [0; 8];
     state_rows::read(row, 12, &mut keys);
-    Stream { held, keys }
+    Ok(Stream {
+        held: Accumulator::from_row(row),
+        keys,
+    })
 }
 
 // The state's 21 words over the row's first places, as many as it has.
 fn write(row: &mut [u32], s: Stream)
     ensures { (row.new ≡ over (row_of s) row.old) × (length (row_of s) ≡ 21) }
 {
-    let keys = s.keys;
-    let unused = [0u32; 1];
     s.held.write_row(row);
-    state_rows::place(row, 12, &keys);
-    state_rows::place(row, 20, &unused);
+    state_rows::place(row, 12, &s.keys);
+    state_rows::place(row, 20, &[0]);
 }

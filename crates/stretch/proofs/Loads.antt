@@ -1,19 +1,24 @@
 -- The four answers are one, and the two rows of a load, laid end to end, are one row.
 use Prim.Native.Nat.{ℕ, ◌+◌, ◌≤◌}
-use mathlib.Core.Path.{◌≡◌, refl, sym, ap, ◌∙◌}
+use mathlib.Core.Path.{◌≡◌, refl, sym, ◌∙◌}
 use mathlib.Core.Bool.{Bool, true, false, cond}
 use mathlib.Core.List.{List, [], ◌∷◌, ◌++◌}
 use native.Mathlib.Omega.{arith}
 use lib.Dec.{eqb}
+use borrow.Author.Tests.{ne_eqb, eqb-true}
 use lib.ListN.{length}
-use Rattle.answers.specs.Answers.{first_of}
+use Rattle.std.specs.Prelude.{Result, Ok, Err, IfOk}
+use Rattle.std.specs.Result.{MatchResult}
+use Rattle.answers.specs.declared.Refusal.{Refusal}
+use Rattle.answers.specs.Answers.{Test, first_of, Validates}
+use Rattle.answers.specs.Refusals.{number, answer_of}
 use Rattle.answers.specs.Table.{bad_width, bad_seed, too_long, seed_test, long_test, long_stretch_test}
+use Rattle.answers.proofs.Refused.{some_number}
 use Rattle.answers.proofs.Validation.{passed, width_passed}
 use Rattle.answers.proofs.Rows.{accepted_row, refused}
 use Rattle.mt19937.specs.Published.{generator, seeded}
-use Rattle.mt19937_array.specs.SeedArray.{array_words, array_answer, no_generator, arrayed, made}
+use Rattle.mt19937_array.specs.SeedArray.{array_words, array_answer, no_generator, arrayed}
 use Rattle.mt19937.specs.declared.Generator.{Generator}
-use Rattle.mt19937_array.specs.declared.Made.{Made}
 use Rattle.stretch.specs.Stretch.{after, key_row, stretch_answer, stretch_array_answer}
 use Rattle.stretch.specs.Load.{load_answer, load_array_answer, key_after, message_after}
 use Rattle.stretch.proofs.Rows.{row_more, row_whole}
@@ -31,6 +36,10 @@ module _ (w keyWords : ℕ) where
   pub of_both : load_array_answer w 1 keyWords 0 ≡ stretch_answer w keyWords
   unfolding load_array_answer stretch_answer first_of bad_seed
   of_both = refl
+
+  pub of_one_word : stretch_array_answer w 1 keyWords ≡ stretch_answer w keyWords
+  unfolding stretch_array_answer stretch_answer first_of bad_seed
+  of_one_word = refl
 
 -- a call that is not refused has a width, and its key row would be stretched too
 module _ (w seedWords keyWords messageWords : ℕ) (e : load_array_answer w seedWords keyWords messageWords ≡ 0) where
@@ -77,14 +86,18 @@ module _ (w : ℕ) (g : Generator) (key message : List ℕ) where
         let zero' = sym validated ∙ z in
         (sym z ∙ validated, wrote.0 ∙ sym (key_after_lem answer zero'), wrote.1 ∙ sym (message_after_lem answer zero'))
 
+-- what tests in a row give is the answer
+pub answered : (ts : List Test) (r : ℕ) → Validates ts r → r ≡ first_of ts 0
+answered ts r j = sym (j 0 ∙ go (eqb r 0) refl)
+  where
+    go : (passes : Bool) → eqb r 0 ≡ passes → cond passes 0 r ≡ r
+    go true e = sym (eqb-true r 0 e)
+    go false e = refl
+
 -- a new generator has a position that a row can start from
 pub seeded_fit : (seed : ℕ) {g : Generator} → g ≡ seeded seed → g.at ≤ 624
 unfolding seeded
 seeded_fit seed e = rw e (omega arith)
-
-pub made_state : (seed : List ℕ) {m : Made} → m ≡ made seed → m.state ≡ arrayed seed
-unfolding made
-made_state seed e = ap (λ (x : Made). x.state) e
 
 pub arrayed_fit : (seed : List ℕ) {g : Generator} → g ≡ arrayed seed → g.at ≤ 624
 unfolding arrayed no_generator
@@ -93,3 +106,12 @@ arrayed_fit seed e = rw e (go (eqb (array_answer seed) 0))
     go : (accepted : Bool) → (cond accepted (generator (array_words seed) 624) no_generator).at ≤ 624
     go true = omega arith
     go false = omega arith
+
+pub arrayed_none : (seed : List ℕ) (refusal : Refusal) {g : Generator} → number refusal ≡ array_answer seed → g ≡ no_generator → g ≡ arrayed seed
+unfolding arrayed
+arrayed_none seed refusal n e = rw (ne_eqb (array_answer seed) 0 (λ z. some_number refusal (n ∙ z))) e
+
+pub made_or_none : (seed : List ℕ) (r : Result Generator Refusal) (P : Refusal → Type 0) {g : Generator} → answer_of r ≡ array_answer seed
+    → IfOk r (λ x. x ≡ arrayed seed) → ((e : Refusal) → P e → g ≡ no_generator) → MatchResult r (λ x. g ≡ x) P → g ≡ arrayed seed
+made_or_none seed (Ok x) P n s h m = m ∙ s
+made_or_none seed (Err e) P n s h m = arrayed_none seed e n (h e m)

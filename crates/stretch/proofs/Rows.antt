@@ -8,10 +8,9 @@ use native.Mathlib.Omega.{arith}
 use lib.ListN.{length, take, drop, length-append, length-take, length-drop}
 use lib.Seq.{take_at, take_all, length-take-le, drop-length}
 use Rattle.rows.specs.Written.{tabulate}
-use Rattle.mt19937.specs.Published.{generator, ready, taken, next_of}
+use Rattle.mt19937.specs.Published.{Next, generator, ready, taken, next_of}
 use Rattle.stretch.specs.Stretch.{outputs, after, key_word, key_from, key_row}
 use Rattle.mt19937.specs.declared.Generator.{Generator}
-use Rattle.mt19937.specs.declared.Next.{Next}
 use Rattle.mt19937.proofs.Laws.{ready_left, next_taken, next_within}
 
 -- a row of outputs and then a row of those that follow are one row

@@ -14,13 +14,14 @@ fn key_word(w: u32, y: u32) -> u32
     mt19937::temper_word(y) >> (Generator::OUTPUT_BITS - w)
 }
 
-// The key words of the state words from a position on, as many as there are places.
+// The key words of the state words from a position on, as many as there are places. Of places zipped with the state words a proof would
+// know no word afterwards.
 fn temper_block(w: u32, words: &[u32; 624], from: usize, out: &mut [u32])
     requires { (1 ≤ w) × (w ≤ 32) × (from + length out.old ≤ 624) }
     ensures { out.new ≡ tabulate (key_from w words.now from) (length out.old) }
 {
-    for i in 0..out.len() {
-        out[i] = key_word(w, words[from + i]);
+    for (i, place) in out.iter_mut().enumerate() {
+        *place = key_word(w, words[from + i]);
     }
 }
 
@@ -29,10 +30,11 @@ fn block_end(from: usize, done: usize, n: usize) -> usize
     requires { (from ≤ 624) × (done < n) }
     ensures { result ≡ min (done + (624 - from)) n }
 {
-    done + rows::lesser(Generator::SIZE - from, n - done)
+    done + (Generator::SIZE - from).min(n - done)
 }
 
-// The whole row from a state and its position on; gives the position after it. Blocks spare a test for each word.
+// The whole row from a state and its position on; gives the position after it. Blocks spare a test for each word. The first block is as
+// long as what is left of the state, so no chunks of one length fit. Width and position stay numbers: the entries hand both on so.
 pub(crate) fn key_row(w: u32, words: &mut [u32; 624], at: usize, out: &mut [u32]) -> usize
     requires { (1 ≤ w) × (w ≤ 32) × (at ≤ 624) }
     ensures { (out.new ≡ key_row w (generator words.old at) (length out.old))

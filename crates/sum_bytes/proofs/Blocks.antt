@@ -1,5 +1,5 @@
 -- Words in blocks: all but the last have their bytes in the message, a block's words are the message's, and its sums go on from those before.
-use mathlib.Core.Path.{◌≡◌, refl, sym, ap, ap₂, subst, ◌∙◌}
+use mathlib.Core.Path.{◌≡◌, refl, sym, ap, ap₂, ◌∙◌}
 use mathlib.Core.Bool.{Bool, true, false, ◌&&◌}
 use mathlib.Core.List.{List, [], ◌∷◌, ◌++◌}
 use Prim.Native.Nat.{ℕ, zero, suc, ◌+◌, ◌-◌, ◌*◌, ◌/◌, min, ◌≤◌, ◌<◌}
@@ -12,20 +12,9 @@ use Rattle.rows.proofs.Parts.{part_to_end}
 use Rattle.sum_terms.specs.Sums.{checked_sums, checked_fit}
 use Rattle.sum_terms.proofs.Summable.{Sums, checked_fit_append}
 use Rattle.sum_terms.proofs.Each.{checked_append}
-use Rattle.sum_bytes.specs.Bytes.{little_endian, words_from, closed, Size, sums_from, fit_from}
+use Rattle.sum_bytes.specs.Bytes.{little_endian, words_from, closed, sums_from, fit_from}
 use Rattle.sum_bytes.proofs.Closing.{closed_length, closed_drop}
 use Rattle.sum_bytes.proofs.Words.{full_there, little_filled, words_front, words_length, words_append}
-
--- the size as the number that it is
-pub of_size : (c k t n : ℕ) → c ≡ k → Size c × (t * c ≤ n) → Size k × (t * k ≤ n)
-of_size c k t n e = subst (λ (m : ℕ). Size m × (t * m ≤ n)) e
-
-pub words_size : (c k t : ℕ) (xs : List ℕ) → c ≡ k → words_from k t xs ≡ words_from c t xs
-words_size c k t xs e = ap (λ (m : ℕ). words_from m t xs) (sym e)
-
--- t words that are all there: each of them is
-pub word_there : (c i t n : ℕ) → i < t → t * c ≤ n → i * c + c ≤ n
-word_there c i t n lt there = omega (arith, suc-mul i c, mul-le-mul_right c lt)
 
 -- words whose bytes are all the message's own
 pub whole_words : (c t : ℕ) (xs : List ℕ) → t * c ≤ length xs → words_from c t xs ≡ words_from c t (closed xs)
@@ -48,14 +37,14 @@ module _ (c size full n : ℕ) (pos : 1 ≤ c) (is : full ≡ min size (n / c)) 
       go (no last) = (omega arith, (full_there c full n pos all).1)
 
 -- a row of full words but for its last place, into which the word with the closing byte goes
-pub last_row : (c full word : ℕ) (xs row : List ℕ) → Size c → length row ≡ full + 1 → full * c ≤ length xs → length xs < full * c + c
-    → word ≡ little_endian 4 (drop (full * c) (closed xs))
+pub last_row : (c full word : ℕ) (xs row : List ℕ) → c ≤ 4 → length row ≡ full + 1 → full * c ≤ length xs → length xs < full * c + c
+    → word ≡ little_endian 4 (closed (drop (full * c) xs))
     → set (words_from c full xs ++ drop full row) full word ≡ words_from c (length row) (closed xs)
 unfolding words_from
-last_row c full word xs row size long there ends read =
+last_row c full word xs row small long there ends read =
     let front : List ℕ = words_from c full xs in
     let rest : length (drop (full * c) (closed xs)) ≤ c = omega (arith, length-drop (full * c) (closed xs), closed_length xs) in
-    let one : (word ∷ []) ≡ words_from c 1 (drop (full * c) (closed xs)) = ap (λ (m : ℕ). m ∷ []) (read ∙ little_filled c 4 (drop (full * c) (closed xs)) rest size.1) in
+    let one : (word ∷ []) ≡ words_from c 1 (drop (full * c) (closed xs)) = ap (λ (m : ℕ). m ∷ []) (read ∙ ap (little_endian 4) (sym (closed_drop (full * c) xs there)) ∙ little_filled c 4 (drop (full * c) (closed xs)) rest small) in
     ap (λ (l : List ℕ). set (front ++ l) full word)
     (drop-cons row full 0 (omega arith) ∙ ap (λ (l : List ℕ). get_or row full 0 ∷ l) (drop_of_length-le row {i = suc full} (omega arith)))
     ∙ set_at front (get_or row full 0) [] word full (words_length c full xs)
@@ -66,6 +55,17 @@ last_row c full word xs row size long there ends read =
 -- t words, of which only the last can want bytes: each of them starts within the message
 pub word_starts : (c t at n : ℕ) → at < t → t * c ≤ n + c → at * c ≤ n
 word_starts c t at n lt there = omega (arith, suc-mul at c, mul-le-mul_right c lt)
+
+-- the full words and one more, in blocks of at most `most`: where a block starts, and where it and the last one end
+module _ (full most i : ℕ) (some : 1 ≤ most) where
+  pub block_place : i < full / most + 1 → i * most < full + 1
+  block_place more = let le : i ≤ full / most = omega arith in omega (arith, full_there most (full / most) full some refl, mul-le-mul_right most le)
+
+  pub block_end : i < full / most + 1 → i * most + min most (full + 1 - i * most) ≡ min (full + 1) ((i + 1) * most)
+  block_end more = omega (arith, block_place more, add-mul i 1 most)
+
+  pub blocks_end : full / most + 1 ≤ i → min (full + 1) (i * most) ≡ full + 1
+  blocks_end all = omega (arith, full_there most (full / most) full some refl, mul-le-mul_right most all, add-mul (full / most) 1 most)
 
 -- a block of the t words, lent as the part from its place on: it has as many bytes as are wanted, and its words are those of the message
 module _ (c t at size : ℕ) (xs row : List ℕ) (there : t * c ≤ length xs + c) (inside : at + size ≤ t) (more : at < t) where

@@ -1,5 +1,5 @@
 -- A message of bytes at a byte width, and what the code answers at any other.
-use mathlib.Core.Path.{◌≡◌, refl, sym, ap, subst, ◌∙◌}
+use mathlib.Core.Path.{◌≡◌, refl, sym, ap, ap₂, subst, ◌∙◌}
 use mathlib.Core.Bool.{Bool, true, false}
 use mathlib.Core.List.{List}
 use Prim.Native.Nat.{ℕ, zero, suc, ◌+◌, ◌*◌, ◌/◌, ◌^◌, ◌≤◌, ◌<◌}
@@ -15,13 +15,13 @@ use Rattle.answers.proofs.Validation.{byte_width_passed}
 use Rattle.sum_terms.specs.Sums.{summable, checked_sums, checked_fit}
 use Rattle.sum_terms.proofs.Summable.{checked_unfit}
 use Rattle.sum_terms.proofs.Each.{checked_still}
-use Rattle.sum_bytes.specs.Bytes.{little_endian, words_from, count_of, in_words, closed, words_of, words_in, Size, sums_from, fit_from, checked_bytes, checked_bytes_fit, Bytes, BytesFit}
+use Rattle.sum_bytes.specs.Bytes.{little_endian, words_from, count_of, in_words, closed, words_of, words_in, sums_from, fit_from, checked_bytes, checked_bytes_fit, Bytes, BytesFit}
 use Rattle.sum_bytes.proofs.Closing.{closed_length, closed_small}
 use Rattle.sum_bytes.proofs.Words.{words_length, count_closed}
 
 -- a byte width is a multiple of 8, with so many bytes in a word
-pub byte_width : (w : ℕ) → bad_byte_width w ≡ false → (w / 8 * 8 ≡ w) × Size (w / 8) × (w ≤ 32)
-byte_width w e = byte_width_passed w e (λ v. (v / 8 * 8 ≡ v) × Size (v / 8) × (v ≤ 32)) (omega arith) (omega arith) (omega arith)
+pub byte_width : (w : ℕ) → bad_byte_width w ≡ false → (w / 8 * 8 ≡ w) × (1 ≤ w / 8) × (w ≤ 32)
+byte_width w e = byte_width_passed w e (λ v. (v / 8 * 8 ≡ v) × (1 ≤ v / 8) × (v ≤ 32)) (omega arith) (omega arith) (omega arith)
 
 pub byte_range : (w : ℕ) → bad_byte_width w ≡ false → (1 ≤ w) × (w ≤ 32)
 byte_range w e = let m = byte_width w e in omega arith
@@ -67,7 +67,7 @@ module _ (w : ℕ) (xs : List ℕ) (good : bad_byte_width w ≡ false) where
   unfolding words_of in_words
   words_of_lem =
       ap (λ (t : ℕ). words_from (w / 8) t (closed xs))
-      (ap (count_of (w / 8)) (closed_length xs) ∙ count_closed (w / 8) (length xs / (w / 8)) (length xs) (byte_width w good).1.0 refl)
+      (ap (count_of (w / 8)) (closed_length xs) ∙ count_closed (w / 8) (length xs / (w / 8)) (length xs) (byte_width w good).1 refl)
 
   pub words_count : length (words_of w xs) ≡ length xs / (w / 8) + 1
   words_count = ap length words_of_lem ∙ words_length (w / 8) (length xs / (w / 8) + 1) (closed xs)
@@ -85,16 +85,18 @@ module _ (w : ℕ) (xs : List ℕ) (good : bad_byte_width w ≡ false) where
   checked_bytes_fit_lem n ks = rw good
 
   -- the code counts the full words and one more: these are the words that it sums, or it sums none
-  module _ (full : ℕ) (is : full ≡ length xs / (w / 8)) (n : ℕ) (ks sums : List ℕ) where
+  module _ (c full : ℕ) (size : c ≡ w / 8) (is : full ≡ length xs / c) (n : ℕ) (ks sums : List ℕ) where
+    count : full ≡ length xs / (w / 8)
+    count = is ∙ ap (λ (k : ℕ). length xs / k) size
+
     pub bytes_none : summable w n (full + 1) (length ks) ≡ false → (false ≡ checked_bytes_fit w n xs ks) × (sums ≡ checked_bytes w n xs ks sums)
     bytes_none e =
-        let count : length (words_of w xs) ≡ full + 1 = words_count ∙ ap (λ (q : ℕ). q + 1) (sym is) in
-        let none = ap (λ (t : ℕ). summable w n t (length ks)) count ∙ e in
+        let words : length (words_of w xs) ≡ full + 1 = words_count ∙ ap (λ (q : ℕ). q + 1) (sym count) in
+        let none = ap (λ (t : ℕ). summable w n t (length ks)) words ∙ e in
         (checked_unfit false w n (words_of w xs) ks none ∙ sym (checked_bytes_fit_lem n ks), checked_still w n (words_of w xs) ks sums none ∙ sym (checked_bytes_lem n ks sums))
 
-    pub bytes_whole : (t : ℕ) {fit : Bool} {after : List ℕ} → t ≡ full + 1
-        → (fit ≡ fit_from w n (w / 8) t xs ks) × (after ≡ sums_from w n (w / 8) t xs ks sums)
+    pub bytes_whole : {fit : Bool} {after : List ℕ} → (fit ≡ fit_from w n c (full + 1) xs ks) × (after ≡ sums_from w n c (full + 1) xs ks sums)
         → (fit ≡ checked_bytes_fit w n xs ks) × (after ≡ checked_bytes w n xs ks sums)
-    bytes_whole t e h =
-        let words : words_from (w / 8) t (closed xs) ≡ words_of w xs = ap (λ (m : ℕ). words_from (w / 8) m (closed xs)) (e ∙ ap (λ (q : ℕ). q + 1) is) ∙ sym words_of_lem in
+    bytes_whole h =
+        let words : words_from c (full + 1) (closed xs) ≡ words_of w xs = ap₂ (λ (k t : ℕ). words_from k t (closed xs)) size (ap (λ (q : ℕ). q + 1) count) ∙ sym words_of_lem in
         (h.0 ∙ ap (λ (l : List ℕ). checked_fit false w n l ks) words ∙ sym (checked_bytes_fit_lem n ks), h.1 ∙ ap (λ (l : List ℕ). checked_sums w n l ks sums) words ∙ sym (checked_bytes_lem n ks sums))

@@ -1,29 +1,22 @@
 -- Words made of bytes: each of them, their number, words in two parts, and words written one by one.
 use mathlib.Core.Path.{◌≡◌, refl, sym, ap, ap₂, ◌∙◌}
 use mathlib.Core.List.{List, [], ◌∷◌, ◌++◌}
-use Prim.Native.Nat.{ℕ, zero, suc, ◌+◌, ◌*◌, ◌/◌, ◌%◌, ◌≤◌, ◌<◌}
-use native.Mathlib.Nat.{zero-add, add-zero, add_assoc, suc-add, zero-mul, suc-mul, div-add-mod', mod-lt, div-eq_of_lt-le, le-mul_of_pos_right, add-mul}
+use Prim.Native.Nat.{ℕ, zero, suc, ◌+◌, ◌*◌, ◌/◌, ◌%◌, ◌-◌, ◌≤◌, ◌<◌}
+use native.Mathlib.Nat.{zero-add, add-zero, add_assoc, suc-add, zero-mul, suc-mul, div-add-mod', mod-lt, div-eq_of_lt-le}
 use native.Mathlib.Numerals.{add-one}
 use native.Mathlib.Omega.{arith}
-use lib.ListN.{length, get_or, drop, replicate, length-drop}
-use lib.Seq.{get_or-drop, drop-drop, drop-nil, drop-append-le}
+use lib.ListN.{length, take, drop, replicate, length-drop}
+use lib.Seq.{get_or-drop, drop-drop, drop-nil, drop-append-le, length-take-le}
+use Rattle.std.proofs.lemmas.List.{take-append-drop, drop-replicate}
+use Rattle.std.specs.Int.{w32, from_le_bytes}
 use Rattle.rows.specs.Written.{tabulate, written}
 use Rattle.rows.proofs.Written.{written_all}
 use Rattle.sum_bytes.specs.Bytes.{little_endian, words_from, count_of}
 
--- the bytes of a word, one by one
-module _ (c at : ℕ) (xs : List ℕ) where
-  pub little_one : c ≡ 1 → little_endian c (drop at xs) ≡ get_or xs at 0
-  unfolding little_endian
-  little_one e = rw e (simp (get_or-drop, add-zero) (omega arith))
-
-  pub little_two : c ≡ 2 → little_endian c (drop at xs) ≡ get_or xs at 0 + 256 * get_or xs (at + 1) 0
-  unfolding little_endian
-  little_two e = rw e (simp (get_or-drop, drop-drop, add-zero) (omega arith))
-
-  pub little_four : c ≡ 4 → little_endian c (drop at xs) ≡ get_or xs at 0 + 256 * get_or xs (at + 1) 0 + 65536 * get_or xs (at + 2) 0 + 16777216 * get_or xs (at + 3) 0
-  unfolding little_endian
-  little_four e = rw e (simp (get_or-drop, drop-drop, add-zero, add_assoc) (omega arith))
+-- the four bytes of a word, as std reads them
+pub little_four : (xs : List ℕ) → from_le_bytes w32 xs ≡ little_endian 4 xs
+unfolding little_endian
+little_four xs = simp (get_or-drop, drop-drop, add-zero, add_assoc) (omega arith)
 
 -- bytes past the end add nothing
 little_none : (c : ℕ) → little_endian c [] ≡ 0
@@ -44,12 +37,35 @@ unfolding words_from
 words_none c zero = refl
 words_none c (suc t) = ap₂ (λ (x : ℕ) (l : List ℕ). x ∷ l) (little_none c) (ap (words_from c t) (drop-nil c) ∙ words_none c t)
 
+-- zeros after the bytes add nothing
+zeros_none : (d k : ℕ) → little_endian d (replicate k 0) ≡ 0
+unfolding little_endian
+zeros_none zero k = refl
+zeros_none (suc d) zero = little_none (suc d)
+zeros_none (suc d) (suc k) = omega (arith, zeros_none d k)
+
+little_zeros : (d k : ℕ) (xs : List ℕ) → little_endian d (xs ++ replicate k 0) ≡ little_endian d xs
+unfolding little_endian
+little_zeros zero k xs = refl
+little_zeros (suc d) k [] = zeros_none (suc d) k ∙ sym (little_none (suc d))
+little_zeros (suc d) k (x ∷ xs) = ap (λ (n : ℕ). x + 256 * n) (little_zeros d k xs)
+
 -- bytes after those of the words change nothing
 little_front : (c : ℕ) (xs ys : List ℕ) → c ≤ length xs → little_endian c (xs ++ ys) ≡ little_endian c xs
 unfolding little_endian
 little_front zero xs ys le = refl
 little_front (suc c) [] ys le = absurd (omega arith)
 little_front (suc c) (x ∷ xs) ys le = ap (λ (n : ℕ). x + 256 * n) (little_front c xs ys (omega arith))
+
+-- the first bytes, over four zeros
+pub little_loaded : (c : ℕ) (xs : List ℕ) → c ≤ 4 → c ≤ length xs → little_endian 4 (take c xs ++ drop c (replicate 4 0)) ≡ little_endian c xs
+little_loaded c xs small there =
+    let long : length (take c xs) ≡ c = length-take-le c xs there in
+    ap (λ (l : List ℕ). little_endian 4 (take c xs ++ l)) (drop-replicate c 4 0)
+    ∙ little_zeros 4 (4 - c) (take c xs)
+    ∙ little_filled c 4 (take c xs) (omega arith) small
+    ∙ sym (little_front c (take c xs) (drop c xs) (omega arith))
+    ∙ ap (little_endian c) (take-append-drop c xs)
 
 pub words_front : (c t : ℕ) (xs ys : List ℕ) → t * c ≤ length xs → words_from c t (xs ++ ys) ≡ words_from c t xs
 unfolding words_from
@@ -91,12 +107,6 @@ module _ (c full n : ℕ) (pos : 1 ≤ c) (is : full ≡ n / c) where
   full_there =
       let whole : full * c + n % c ≡ n = ap (λ (q : ℕ). q * c + n % c) is ∙ div-add-mod' n c in
       omega (arith, mod-lt n pos)
-
-  pub full_few : full ≤ n
-  full_few = omega (arith, full_there, le-mul_of_pos_right full pos)
-
-  pub words_room : (full + 1) * c ≤ n + c
-  words_room = omega (arith, full_there, add-mul full 1 c)
 
   pub count_closed : count_of c (n + 1) ≡ full + 1
   unfolding count_of

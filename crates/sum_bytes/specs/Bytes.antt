@@ -1,5 +1,5 @@
 -- A message of bytes as words (document 01, "Bytes"; closed as document 02, "One", says). A word of width 8, 16 or 32 has 1, 2 or 4 bytes.
-use Rattle.std.specs.Prelude.{◌≡◌, Bool, true, false, not, ◌&&◌, cond, ◌≢◌, List, [], ◌∷◌, ◌++◌, ℕ, zero, suc, ◌+◌, ◌*◌, ◌-◌, ◌/◌, ◌≤◌, ◌<◌, length, get_or, drop}
+use Rattle.std.specs.Prelude.{◌≡◌, Bool, true, false, not, ◌&&◌, cond, List, [], ◌∷◌, ◌++◌, ℕ, zero, suc, ◌+◌, ◌*◌, ◌-◌, ◌/◌, ◌<◌, length, get_or, drop}
 use Rattle.theory_counts.specs.Words.{fits}
 use Rattle.answers.specs.Table.{bad_byte_width}
 use Rattle.sum_terms.specs.Sums.{checked_sums, checked_fit}
@@ -34,10 +34,6 @@ words_of w xs = in_words w (closed xs)
 -- how many they are at a byte width, which Long counts; 0 at any other width
 unfoldable pub words_in : ℕ → List ℕ → ℕ
 words_in w xs = cond (bad_byte_width w) 0 (length (words_of w xs))
-
--- the bytes in a word of a byte width: 1, 2 or 4
-abbrev pub Size : ℕ → Type 0
-Size c = (1 ≤ c) × (c ≤ 4) × (c ≢ 3)
 
 -- 01, "Bytes": the first t words of c bytes of the closed message, added to sums
 abbrev pub sums_from : ℕ → ℕ → ℕ → ℕ → List ℕ → List ℕ → List ℕ → List ℕ

@@ -1,5 +1,5 @@
 -- The sums of up to sixteen peers (document 02, "Five", which calls them a crew): sixteen rows of eight, a row for each peer, under the peer's own key.
-use Rattle.std.specs.Prelude.{◌≡◌, ℕ, ◌+◌, ◌*◌, ◌/◌, ◌%◌, ◌^◌, ◌<◌, ◌≤◌, Bool, true, false, not, ◌&&◌, List, [], length, drop, replicate, slice_index, slice_index_or}
+use Rattle.std.specs.Prelude.{◌≡◌, ℕ, ◌+◌, ◌*◌, ◌/◌, ◌%◌, ◌^◌, ◌<◌, ◌≤◌, Bool, true, false, not, ◌&&◌, List, [], length, drop, replicate, slice_index, slice_index_or, Result, Ok, Err, is_ok}
 use Rattle.theory_counts.specs.Words.{fits}
 use Rattle.theory_digest.specs.Digest.{whole_sum}
 use Rattle.answers.specs.Table.{bad_peers}
@@ -23,10 +23,6 @@ RowsAccumulated w n p size ms ks old new =
 abbrev pub Sixteen : List (List ℕ) → Type 0
 Sixteen rows = (length rows ≡ 16) × ((q : ℕ) → q < 16 → length (slice_index_or rows q []) ≡ 8)
 
--- what the walk asks: one to eight sums, one to sixteen peers, and under each peer's key as many words as the message and n sums read
-abbrev pub PeersReady : ℕ → ℕ → ℕ → ℕ → ℕ → ℕ → Type 0
-PeersReady w n p t size k = (w ≤ 32) × (1 ≤ n) × (n ≤ 8) × (1 ≤ p) × (p ≤ 16) × ((q : ℕ) → q < p → q * size + (t + n) ≤ k)
-
 -- where the code sums, of t message words and k key words: Peers passes, and an equal share of the keys has words for n sums of each peer
 unfoldable pub peers_summable : ℕ → ℕ → ℕ → ℕ → ℕ → Bool
 peers_summable w n p t k = not (bad_peers p) && summable w n t (k / p)
@@ -40,3 +36,12 @@ abbrev pub PeersSums : ℕ → ℕ → ℕ → List ℕ → List ℕ → List (L
 PeersSums w n p ms ks rows fit =
     (peers_summable w n p (length ms) (length ks) ≡ true → RowsAccumulated w n p (length ms + n) ms ks zeros rows × (fit ≡ fits w ms))
     × (peers_summable w n p (length ms) (length ks) ≡ false → (rows ≡ zeros) × (fit ≡ false))
+
+-- rows, in whichever case they come
+abbrev pub rows_of : Result (List (List ℕ)) (List (List ℕ)) → List (List ℕ)
+rows_of (Ok rows) = rows
+rows_of (Err rows) = rows
+
+-- both in one value: the rows, Ok where the message's words fit
+abbrev pub PeersResult : ℕ → ℕ → ℕ → List ℕ → List ℕ → Result (List (List ℕ)) (List (List ℕ)) → Type 0
+PeersResult w n p ms ks result = PeersSums w n p ms ks (rows_of result) (is_ok result)

@@ -2,146 +2,131 @@
 // are loaded once for all rows, and each row is updated in place before the next two are loaded.
 #![tactic(auto)]
 
-ghost use Rattle.std.specs.Prelude.{◌≡◌, ◌+◌, ◌*◌, ◌/◌, ◌%◌, ◌^◌, ◌<◌, ◌≤◌, [], ◌∷◌, length, take};
+ghost use Rattle.std.specs.Prelude.{◌≡◌, ◌+◌, ◌*◌, ◌/◌, ◌%◌, ◌^◌, ◌<◌, ◌≤◌, ◌∷◌, length, drop};
+ghost use Rattle.std.specs.List.{concat};
 ghost use Rattle.theory_counts.specs.Words.{fits};
-ghost use Rattle.sum_walk.specs.Walk.{even_length};
-ghost use Rattle.sum_peers.specs.Peers.{RowAccumulated, RowsAccumulated, Sixteen, PeersReady, zeros, PeersSums};
+ghost use Rattle.theory_digest.specs.Digest.{whole_sum};
+ghost use Rattle.sum_peers.specs.Peers.{RowAccumulated, RowsAccumulated, Sixteen, zeros, PeersResult};
 
 use answers::table;
 use sum_terms::product;
 
 // The first n sums of each of the first p rows are those of the message under the peer's key, of which each has n words more than the
-// message and which lie end to end; fit is whether the message's words fit. Where the settings or the keys do not suffice, the rows
-// are zeros and fit is false.
+// message and which lie end to end. They are Ok where the message's words fit, and Err where not. Where the settings or the keys do
+// not suffice, the rows are zeros, in Err.
 pub fn row_sums(
     w: u32,
     n: u32,
     p: u32,
     message: &[u32],
     keys: &[u32],
-    fit: &mut bool,
-) -> [[u64; 8]; 16]
-    ensures { PeersSums w n p message.now keys.now result fit.new }
+) -> Result<[[u64; 8]; 16], [[u64; 8]; 16]>
+    ensures { PeersResult w n p message.now keys.now result }
 {
     let mut rows = [[0u64; 8]; 16];
-    *fit = false;
-    if table::bad_peers(p) {
-        return rows;
+    if table::peers(p).is_err() {
+        return Err(rows);
     }
     if !sum_terms::can_sum(w, n, message.len(), keys.len() / (p as usize)) {
-        return rows;
+        return Err(rows);
     }
-    let words = n as usize;
-    let peers = p as usize;
-    let size = message.len() + words;
-    let done = message.len() / 2 * 2;
-    let pairs_fit = add_words(w, words, peers, size, message, keys, &mut rows);
-    if message.len() == done {
-        *fit = pairs_fit;
-        return rows;
+    let n = n as usize;
+    let size = message.len() + n;
+    let peers = Peers {
+        w,
+        n,
+        p: p as usize,
+        size,
+        keys,
+    };
+    if peers.add_message(message, &mut rows) {
+        Ok(rows)
+    } else {
+        Err(rows)
     }
-    let last = message[done];
-    add_last(w, words, peers, size, last, &keys[done..], &mut rows);
-    *fit = range::both(pairs_fit, range::below(w, last));
-    rows
 }
 
-// Adds the words in pairs, all but an odd last one, and answers whether they fit. Each word is loaded and tested once, and every
-// peer's row has it before the next pair is loaded.
-fn add_words(
+// What the rows are summed with: words of w bits, n sums for a peer, and the keys of p peers, of size words each.
+#[derive(Drop)]
+struct Peers<'a> {
     w: u32,
     n: usize,
     p: usize,
     size: usize,
-    message: &[u32],
-    keys: &[u32],
-    rows: &mut [[u64; 8]; 16],
-) -> bool
-    requires { (rows.old ≡ zeros) × PeersReady w n p (length message.now) size (length keys.now) }
-    ensures { RowsAccumulated w n p size (take (even_length message.now) message.now) keys.now rows.old rows.new
-        × (result ≡ fits w (take (even_length message.now) message.now)) }
-{
-    let end = message.len() / 2 * 2;
-    let mut fit = true;
-    let mut j = 0;
-    while j < end {
-        let first = message[j];
-        let second = message[j + 1];
-        fit = range::both(
-            fit,
-            range::both(range::below(w, first), range::below(w, second)),
-        );
-        add_to_peers(w, n, p, size, first, second, &keys[j..], rows);
-        j += 2;
-    }
-    fit
+    keys: &'a [u32],
+    ghost width: { w ≤ 32 },
+    ghost sums: { n ≤ 8 },
+    ghost peers: { p ≤ 16 },
+    ghost whole: { p * size ≤ length keys.now },
 }
 
-// Adds two message words to n sums of each row, peer by peer, in place.
-fn add_to_peers(
-    w: u32,
-    n: usize,
-    p: usize,
-    size: usize,
-    first: u32,
-    second: u32,
-    keys: &[u32],
-    rows: &mut [[u64; 8]; 16],
-)
-    requires { Sixteen rows.old × PeersReady w n p 2 size (length keys.now) }
-    ensures { RowsAccumulated w n p size (first ∷ second ∷ []) keys.now rows.old rows.new }
-{
-    let mut q = 0;
-    while q < p {
-        add_two(w, n, &mut rows[q], first, second, &keys[q * size..]);
-        q += 1;
+impl Peers<'_> {
+    // Adds the message, in pairs of words and an odd last one, and answers whether its words fit.
+    fn add_message(&self, message: &[u32], rows: &mut [[u64; 8]; 16]) -> bool
+        requires { (rows.old ≡ zeros) × (length message.now + self.now.n ≤ self.now.size) }
+        ensures { RowsAccumulated self.now.w self.now.n self.now.p self.now.size message.now self.now.keys.now rows.old rows.new
+            × (result ≡ fits self.now.w message.now) }
+    {
+        let (pairs, rest) = message.as_chunks::<2>();
+        let fit = self.add_pairs(pairs, rows);
+        let [last] = rest else {
+            return fit;
+        };
+        self.add_to_rows([*last], message.len() - 1, rows);
+        fit & range::below(self.w, *last)
     }
-}
 
-// Adds two message words to n sums, each under its own words of the key's part, modulo 2^64: a sum is loaded and stored once for both.
-fn add_two(w: u32, n: usize, sums: &mut [u64; 8], first: u32, second: u32, part: &[u32])
-    requires { (length sums.old ≡ 8) × (w ≤ 32) × (n ≤ 8) × (n + 2 ≤ length part.now) }
-    ensures { RowAccumulated w n (first ∷ second ∷ []) part.now sums.old sums.new }
-{
-    let mut i = 0;
-    while i < n {
-        let one = word_adds(w, first, part[i], part[i + 1]);
-        let other = word_adds(w, second, part[i + 1], part[i + 2]);
-        sums[i] = std::num::wrapping_add_u64(sums[i], std::num::wrapping_add_u64(one, other));
-        i += 1;
+    // Adds pairs of words and answers whether they fit. Each word is loaded once, and every peer's row has it before the next pair is
+    // loaded. The words' bits are joined, so that one test at the end is of all words.
+    fn add_pairs(&self, pairs: &[[u32; 2]], rows: &mut [[u64; 8]; 16]) -> bool
+        requires { (rows.old ≡ zeros) × (length pairs.now * 2 + self.now.n ≤ self.now.size) }
+        ensures { RowsAccumulated self.now.w self.now.n self.now.p self.now.size (concat pairs.now) self.now.keys.now rows.old rows.new
+            × (result ≡ fits self.now.w (concat pairs.now)) }
+    {
+        let mut bits: u32 = 0;
+        for (j, &pair) in pairs.iter().enumerate() {
+            bits |= pair[0] | pair[1];
+            self.add_to_rows(pair, j * 2, rows);
+        }
+        range::below(self.w, bits)
     }
-}
 
-// Adds an odd last word to every row.
-fn add_last(
-    w: u32,
-    n: usize,
-    p: usize,
-    size: usize,
-    last: u32,
-    keys: &[u32],
-    rows: &mut [[u64; 8]; 16],
-)
-    requires { Sixteen rows.old × PeersReady w n p 1 size (length keys.now) }
-    ensures { RowsAccumulated w n p size (last ∷ []) keys.now rows.old rows.new }
-{
-    let mut q = 0;
-    while q < p {
-        add_word(w, n, &mut rows[q], last, &keys[q * size..]);
-        q += 1;
+    // Adds message words, of which the first is word j, to n sums of each row, peer by peer, in place: row and keys are both at q.
+    fn add_to_rows<const K: usize>(&self, words: [u32; K], j: usize, rows: &mut [[u64; 8]; 16])
+        requires { Sixteen rows.old × (j + (K + self.now.n) ≤ self.now.size) }
+        ensures { RowsAccumulated self.now.w self.now.n self.now.p self.now.size words.entry (drop j self.now.keys.now) rows.old rows.new }
+    {
+        for q in 0..self.p {
+            self.add_to_row(words, &self.keys[q * self.size + j..], &mut rows[q]);
+        }
+    }
+
+    // Adds message words to n sums, each under its own words of the key's part, modulo 2^64: a sum is loaded and stored once for all,
+    // and loaded last, since it waits for the turn before.
+    fn add_to_row<const K: usize>(&self, words: [u32; K], part: &[u32], sums: &mut [u64; 8])
+        requires { (length sums.old ≡ 8) × (self.now.n + K ≤ length part.now) }
+        ensures { RowAccumulated self.now.w self.now.n words.entry part.now sums.old sums.new }
+    {
+        for (i, sum) in sums[..self.n].iter_mut().enumerate() {
+            let more = words_add(self.w, words, part[i], &part[i + 1..]);
+            *sum = sum.wrapping_add(more);
+        }
     }
 }
 
-// Adds one message word to n sums, each under its own words of the key's part, modulo 2^64.
-fn add_word(w: u32, n: usize, sums: &mut [u64; 8], m: u32, part: &[u32])
-    requires { (length sums.old ≡ 8) × (w ≤ 32) × (n ≤ 8) × (n < length part.now) }
-    ensures { RowAccumulated w n (m ∷ []) part.now sums.old sums.new }
+// What message words add to a sum under a key word and the next ones, modulo 2^64. The compiler unrolls the loop.
+fn words_add<const K: usize>(w: u32, words: [u32; K], first: u32, nexts: &[u32]) -> u64
+    requires { (w ≤ 32) × (K ≤ length nexts.now) }
+    ensures { result ≡ whole_sum w words.entry (first ∷ nexts.now) % 2 ^ 64 }
 {
-    let mut i = 0;
-    while i < n {
-        sums[i] = std::num::wrapping_add_u64(sums[i], word_adds(w, m, part[i], part[i + 1]));
-        i += 1;
+    let mut sum = 0u64;
+    let mut key = first;
+    for (j, word) in words.iter().enumerate() {
+        let next = nexts[j];
+        sum = sum.wrapping_add(word_adds(w, *word, key, next));
+        key = next;
     }
+    sum
 }
 
 // What the word m adds to a sum under a key word and the next one, modulo 2^64. The wrap is meant.
@@ -149,5 +134,5 @@ fn word_adds(w: u32, m: u32, key: u32, next: u32) -> u64
     requires { w ≤ 32 }
     ensures { result ≡ (m * key + m * next / 2 ^ w) % 2 ^ 64 }
 {
-    std::num::wrapping_add_u64(product(m, key), product(m, next) >> w)
+    product(m, key).wrapping_add(product(m, next) >> w)
 }

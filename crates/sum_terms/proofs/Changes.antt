@@ -9,11 +9,12 @@ use native.Mathlib.Omega.{arith}
 use borrow.Author.Tests.{ltb-true, lt-ltb}
 use lib.Dec.{ltb}
 use lib.Pow.{pow_pos}
-use lib.ListN.{length, get_or, take, drop, length-take, drop_of_length-le}
+use lib.ListN.{length, get_or, set, take, drop, length-take, drop_of_length-le}
 use lib.Seq.{take_at, drop_at, take_all, get_or-take}
+use Rattle.std.proofs.lemmas.List.{drop_min}
 use Rattle.rows.specs.Written.{written}
 use Rattle.rows.proofs.Parts.{drop_one}
-use Rattle.rows.proofs.Written.{tabulate_same, tabulate_all}
+use Rattle.rows.proofs.Written.{tabulate_same, tabulate_all, written_all, written_here, written_step}
 use Rattle.theory_counts.specs.Words.{fits}
 use Rattle.theory_counts.proofs.Fits.{both}
 
@@ -48,6 +49,21 @@ module _ (n : ℕ) (new sums : List ℕ) (long : length new ≡ min n (length su
           let none : drop n sums ≡ [] = drop_of_length-le sums {i = n} (omega arith) in
           ap (λ (x : List ℕ). drop n (new ++ x)) none ∙ ap (drop n) (append-nil new) ∙ drop_of_length-le new {i = n} (omega arith) ∙ sym none
 
+-- a row's first k places, which are written as a row of their own
+module _ (f : ℕ → ℕ) (old : List ℕ) (k : ℕ) (le : k ≤ length old) where
+  -- the place that comes next holds what it held
+  pub front_here : (first : List ℕ) (i : ℕ) → i < k → first ≡ written f i (take k old) → get_or first i 0 ≡ get_or old i 0
+  front_here first i lt e = written_here f (take k old) first i e ∙ get_or-take k old i 0 lt
+
+  -- the place that a turn writes
+  pub front_step : (first : List ℕ) (i v : ℕ) → i < k → v ≡ f i → first ≡ written f i (take k old) → set first i v ≡ written f (i + 1) (take k old)
+  front_step first i v lt is e = written_step f (take k old) first i v (omega (arith, length-take k old)) is e
+
+  -- the whole row at the end
+  pub front_end : (first : List ℕ) (i : ℕ) → i ≡ k → first ≡ written f i (take k old) → first ++ drop k old ≡ written f k old
+  front_end first i end e =
+      ap (λ (l : List ℕ). l ++ drop k old) (e ∙ ap (λ (j : ℕ). written f j (take k old)) end ∙ written_all f (take k old) k (omega (arith, length-take k old)))
+
 module _ (w : ℕ) (f : List ℕ → ℕ) where
   pub length_changed : (ks sums : List ℕ) → length (changed w f ks sums) ≡ length sums
   unfolding changed
@@ -74,11 +90,7 @@ module _ (w : ℕ) (f : List ℕ → ℕ) where
       (tabulate_same (λ i. (get_or sums i 0 + f (drop i ks)) % 2 ^ w) (λ i. get_or (changed w f ks few) i 0) end
       (λ i lt. ap (λ (x : ℕ). (x + f (drop i ks)) % 2 ^ w) (sym (get_or-take n sums i 0 (omega arith))) ∙ sym (changed_at i ks few (omega (arith, length-take n sums))))
       ∙ tabulate_all (changed w f ks few) end (length_changed ks few ∙ length-take n sums))
-      (dropped (dec_le n (length sums)))
-    where
-      dropped : Dec (n ≤ length sums) → drop (min n (length sums)) sums ≡ drop n sums
-      dropped (yes few) = let same : min n (length sums) ≡ n = omega arith in ap (λ (m : ℕ). drop m sums) same
-      dropped (no many) = drop_of_length-le sums {i = min n (length sums)} (omega arith) ∙ sym (drop_of_length-le sums {i = n} (omega arith))
+      (drop_min n sums)
 
   -- a number that two key words give: so many sums read one key word more
   pub changed_reads : ((l : List ℕ) → f (take 2 l) ≡ f l) → (ks sums : List ℕ) → changed w f (take (suc (length sums)) ks) sums ≡ changed w f ks sums

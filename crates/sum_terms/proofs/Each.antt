@@ -9,8 +9,9 @@ use borrow.Author.Tests.{ltb-true}
 use lib.Dec.{ltb}
 use lib.ListN.{length, get_or, take, drop, replicate, length-take, get_or-map}
 use lib.Seq.{take-append-le, drop-drop, get_or-take}
+use Rattle.std.proofs.lemmas.List.{take-replicate}
 use Rattle.rows.specs.Written.{written, over}
-use Rattle.rows.proofs.Written.{tabulate_same, over_fits, over_written}
+use Rattle.rows.proofs.Written.{over_fits}
 use Rattle.theory_counts.specs.Words.{fits}
 use Rattle.theory_digest.specs.Digest.{whole_sum, one_word, full_words, kept, digest}
 use Rattle.theory_counts.proofs.Fits.{both}
@@ -116,13 +117,8 @@ pub checked_zero : (w n : ℕ) (ms ks : List ℕ) → Sums w n (length ms) (leng
 checked_zero w n ms ks s =
     ap (take n) (checked_sums_lem w n ms ks (replicate 8 0) s)
     ∙ first w n ms ks (replicate 8 0)
-    ∙ ap (add_sums w ms ks) (zeros n 8 s.words)
+    ∙ ap (add_sums w ms ks) (take-replicate n 8 0 s.words)
     ∙ sums_zero w n ms ks
-  where
-    zeros : (n m : ℕ) → n ≤ m → take n (replicate {A = ℕ} m 0) ≡ replicate n 0
-    zeros zero m le = refl
-    zeros (suc n) zero le = absurd (omega arith)
-    zeros (suc n) (suc m) le = ap (λ (l : List ℕ). 0 ∷ l) (zeros n m (omega arith))
 
 -- the words that are kept of the sums
 pub length_map : (f : ℕ → ℕ) (words : List ℕ) → length (map f words) ≡ length words
@@ -160,13 +156,3 @@ sums_written w n ms ks sums s =
     changed_written w (whole_sum w ms) n ks sums
     ∙ ap (λ (l : List ℕ). l ++ drop n sums) (sym (sums_changed w ms ks (take n sums)))
     ∙ sym (checked_sums_lem w n ms ks sums s)
-
--- the kept words as the loop writes them
-pub kept_written : (b n end : ℕ) (sums old : List ℕ) → length sums ≡ 8 → end ≡ min (min n 8) (length old)
-    → written (λ i. kept b (get_or sums i 0)) end old ≡ over (map (kept b) (take n sums)) old
-kept_written b n end sums old eight e =
-    let words : List ℕ = map (kept b) (take n sums) in
-    let long : length words ≡ min n 8 = length_map (kept b) (take n sums) ∙ length-take n sums ∙ omega arith in
-    ap (λ (l : List ℕ). l ++ drop end old)
-    (tabulate_same (λ i. kept b (get_or sums i 0)) (λ i. get_or words i 0) end (λ i lt. sym (kept_at b n i sums (omega arith))))
-    ∙ over_written words old end (omega arith)

@@ -13,53 +13,35 @@ use answers::table;
 pub fn product(a: u32, b: u32) -> u64
     ensures { result ≡ a * b }
 {
-    (a as u64) * (b as u64)
+    u64::from(a) * u64::from(b)
 }
 
 // The low b bits of a word, for every b.
 pub fn keep(b: u32, word: u32) -> u32
     ensures { result ≡ kept b word }
 {
-    if 32 <= b {
-        return word;
+    match 1u32.checked_shl(b) {
+        Some(power) => word % power,
+        None => word,
     }
-    low_bits(word as u64, b)
-}
-
-fn low_bits(sum: u64, w: u32) -> u32
-    requires { w ≤ 32 }
-    ensures { result ≡ sum % 2 ^ w }
-{
-    (sum % power(w)) as u32
-}
-
-fn power(e: u32) -> u64
-    requires { e ≤ 32 }
-    ensures { result ≡ 2 ^ e }
-{
-    1u64 << e
 }
 
 // The low b bits of the first n sums into the row's first places, as many as it has.
 pub fn write_kept(b: u32, n: usize, sums: [u32; 8], row: &mut [u32])
     ensures { row.new ≡ over (map (kept b) (take n sums)) row.old }
 {
-    let end = rows::lesser(rows::lesser(n, 8), row.len());
-    let mut place = 0;
-    while place < end {
-        row[place] = keep(b, sums[place]);
-        place += 1;
-    }
+    let words = sums.map(|sum| keep(b, sum));
+    rows::copy(row, &words[..n.min(8)]);
 }
 
 // Whether there are key words for n sums of a message, at settings in range.
 pub fn can_sum(w: u32, n: u32, message: usize, key: usize) -> bool
     ensures { result ≡ summable w n message key }
 {
-    if table::bad_width(w) {
+    if table::width(w).is_err() {
         return false;
     }
-    if table::bad_count(n) {
+    if table::count(n).is_err() {
         return false;
     }
     let words = n as usize;
@@ -73,11 +55,5 @@ pub fn can_sum(w: u32, n: u32, message: usize, key: usize) -> bool
 pub fn rest_fits(w: u32, tested: bool, last: u32, key: &[u32]) -> bool
     ensures { result ≡ (tests tested w (last ∷ []) && fits w key.now) }
 {
-    if !tested {
-        return range::row_fits(w, key);
-    }
-    if range::below(w, last) {
-        return range::row_fits(w, key);
-    }
-    false
+    (!tested || range::below(w, last)) && range::row_fits(w, key)
 }

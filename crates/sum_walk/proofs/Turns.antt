@@ -1,8 +1,7 @@
 -- The walk: one word for n sums, two words of the range test, the whole.
-use Rattle.std.proofs.Common.{◌≡◌, ℕ, suc, ◌+◌, ◌-◌, ◌*◌, ◌/◌, ◌%◌, ◌^◌, ◌<◌, ◌≤◌, Bool, true, false, ◌&&◌, ltb, List, [], ◌∷◌, ◌++◌, length, get_or, take, drop, replicate, sym, refl, ap, ◌∙◌, subst, ap₂, add-zero, mod-eq_of_lt, add_comm, add-one, arith, get_or-drop, take-suc, pow_pos, lt-ltb}
+use Rattle.std.proofs.Common.{◌≡◌, ℕ, suc, ◌+◌, ◌-◌, ◌*◌, ◌/◌, ◌%◌, ◌^◌, ◌<◌, ◌≤◌, Bool, true, false, ◌&&◌, ltb, List, [], ◌∷◌, ◌++◌, length, get_or, take, drop, sym, refl, ap, ◌∙◌, ap₂, mod-eq_of_lt, add_comm, add-one, arith, get_or-drop, take-suc, pow_pos, lt-ltb}
 use mathlib.Core.Bool.{and-true, and_assoc}
 use lib.Bits.{bit_and, bit_or, or_mod, or_shr}
-use lib.ListN.{length-replicate, get_or-replicate}
 use lib.Seq.{append_snoc}
 use Rattle.rows.specs.Written.{written}
 use Rattle.rows.proofs.Written.{tabulate_at}
@@ -10,7 +9,7 @@ use Rattle.theory_counts.specs.Words.{fits}
 use Rattle.theory_counts.proofs.Fits.{fits_append}
 use Rattle.range.proofs.Range.{or_below}
 use Rattle.sum_terms.specs.Sums.{tests}
-use Rattle.sum_walk.specs.Walk.{together, sum_at, added, Accumulated, PartialSums, bits_fit, BitsJoined, SameBits, PairsWalked}
+use Rattle.sum_walk.specs.Walk.{together, sum_at, added, Accumulated, PartialSums, bits_fit, BitsJoined, SameBits}
 use Rattle.sum_walk.proofs.Apart.{both_added}
 use Rattle.sum_walk.proofs.PartialSum.{partial_start, partial_step}
 use Rattle.sum_terms.proofs.Summable.{middle, tests_append}
@@ -45,13 +44,13 @@ module _ (w n : ℕ) (ms ks : List ℕ) where
       (get_or-drop j ks i 0 ∙ ap (λ (k : ℕ). get_or ks k 0) (add_comm j i) ∙ sym (get_or-drop i ks j 0))
       (get_or-drop j ks (i + 1) 0 ∙ ap (λ (k : ℕ). get_or ks k 0) next ∙ sym (get_or-drop i ks (j + 1) 0))
 
-  pub walked_start : (low high : List ℕ) → n ≤ 8 → low ≡ replicate 8 0 → high ≡ replicate 8 0 → PartialSums w n ms ks low high 0
-  walked_start low high few el eh =
-      rw (el, eh) (
-        length-replicate {A = ℕ} 8 0,
-        length-replicate {A = ℕ} 8 0,
-        λ i lt. rw (get_or-replicate {A = ℕ} 8 i 0 0 (omega arith)) (partial_start w ms (drop i ks)),
-      )
+  pub walked_start : (low high : List ℕ) → length low ≡ 8 → length high ≡ 8
+      → ((i : ℕ) → i < 8 → get_or low i 0 ≡ 0)
+      → ((i : ℕ) → i < 8 → get_or high i 0 ≡ 0)
+      → n ≤ 8
+      → PartialSums w n ms ks low high 0
+  walked_start low high el eh zl zh few =
+      (el, eh, λ i lt. rw (zl i (omega arith), zh i (omega arith)) (partial_start w ms (drop i ks)))
 
   pub walked_step : (j m : ℕ) (part low high low' high' : List ℕ)
       → j < length ms
@@ -137,26 +136,19 @@ two_more xs j more =
     ∙ ap₂ (λ (l : List ℕ) (x : ℕ). l ++ (x ∷ [])) (take-suc xs j 0 (omega arith)) (ap (λ (k : ℕ). get_or xs k 0) (sym (add-one j)))
     ∙ append_snoc (take j xs) (get_or xs j 0) (get_or xs (j + 1) 0 ∷ [])
 
-pub bits_step : (asked : Bool) (w j even odd keys : ℕ) (before : ℕ → Bool) (ms ks part : List ℕ)
+pub bits_step : (asked : Bool) (w j even odd keys : ℕ) (before : ℕ → Bool) (ms ks : List ℕ)
     → j + 1 < length ms
     → j + 1 < length ks
-    → part ≡ drop j ks
     → before w ≡ (tests asked w (take j ms) && fits w (take j ks))
-    → BitsJoined asked before (get_or ms j 0 ∷ get_or ms (j + 1) 0 ∷ []) (get_or part 0 0 ∷ get_or part 1 0 ∷ []) even odd keys
+    → BitsJoined asked before (get_or ms j 0 ∷ get_or ms (j + 1) 0 ∷ []) (get_or ks j 0 ∷ get_or ks (j + 1) 0 ∷ []) even odd keys
     → bits_fit w even odd keys ≡ (tests asked w (take (j + 2) ms) && fits w (take (j + 2) ks))
-bits_step asked w j even odd keys before ms ks part more-ms more-ks lent h s =
+bits_step asked w j even odd keys before ms ks more-ms more-ks h s =
     let two-ms : List ℕ = get_or ms j 0 ∷ get_or ms (j + 1) 0 ∷ [] in
     let two-ks : List ℕ = get_or ks j 0 ∷ get_or ks (j + 1) 0 ∷ [] in
-    let read : (get_or part 0 0 ∷ get_or part 1 0 ∷ []) ≡ two-ks =
-    ap (λ (l : List ℕ). get_or l 0 0 ∷ get_or l 1 0 ∷ []) lent ∙ ap₂ (λ (x y : ℕ). x ∷ y ∷ []) (get_or-drop j ks 0 0 ∙ ap (λ (k : ℕ). get_or ks k 0) (add-zero j)) (get_or-drop j ks 1 0) in
     s w
-    ∙ ap₂ (λ (t : Bool) (l : List ℕ). t && (tests asked w two-ms && fits w l)) h read
+    ∙ ap (λ (t : Bool). t && (tests asked w two-ms && fits w two-ks)) h
     ∙ middle (tests asked w (take j ms)) (fits w (take j ks)) (tests asked w two-ms) (fits w two-ks)
     ∙ sym
     (ap₂ (λ (s t : Bool). s && t)
     (ap (tests asked w) (two_more ms j more-ms) ∙ tests_append asked w (take j ms) two-ms)
     (ap (fits w) (two_more ks j more-ks) ∙ fits_append w (take j ks) two-ks))
-
--- what the walk leaves, for n as the number that it is
-pub done_at : (asked : Bool) (w : ℕ) (ms ks low high : List ℕ) (bits k n : ℕ) → k ≡ n → PairsWalked asked w k ms ks low high bits → PairsWalked asked w n ms ks low high bits
-done_at asked w ms ks low high bits k n e = subst (λ (m : ℕ). PairsWalked asked w m ms ks low high bits) e

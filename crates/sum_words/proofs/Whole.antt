@@ -1,6 +1,10 @@
 -- A whole message: the words in pairs, then an odd last word and the key's last words.
-use Rattle.std.proofs.Common.{◌≡◌, ℕ, ◌+◌, ◌-◌, ◌%◌, ◌^◌, ◌<◌, ◌≤◌, min, Bool, true, false, ◌&&◌, List, [], ◌∷◌, ◌++◌, length, get_or, take, drop, sym, refl, ap, ◌∙◌, ap₂, add_assoc, arith, length-drop, take-append-drop, take-add, drop_at, pow_pos, lt-ltb}
+use Rattle.std.proofs.Common.{◌≡◌, ℕ, suc, Bor, Option, None, Some, ◌+◌, ◌-◌, ◌%◌, ◌^◌, ◌<◌, ◌≤◌, min, Bool, true, false, ◌&&◌, List, [], ◌∷◌, ◌++◌, length, get_or, take, drop, sym, refl, ap, ◌∙◌, ap₂, add_assoc, arith, length-drop, take-append-drop, take-add, drop_at, pow_pos, lt-ltb}
 use native.Mathlib.Nat.{add-mod-mod, mod-add-mod}
+use lib.Seq.{drop-cons}
+use lib.ListN.{drop_of_length-le}
+use Rattle.std.specs.Option.{unwrap_or, option_copied, option_to_list}
+use Rattle.std.specs.Slice.{IsItemAt}
 use Rattle.rows.specs.Written.{tabulate, written}
 use Rattle.rows.proofs.Written.{tabulate_at, tabulate_same, length_tabulate}
 use Rattle.theory_counts.specs.Words.{fits}
@@ -8,40 +12,22 @@ use Rattle.theory_digest.specs.Digest.{whole_sum, one_word}
 use Rattle.theory_counts.proofs.Fits.{fits_append}
 use Rattle.sum_terms.specs.Sums.{summable, checked_sums, tests, checked_fit}
 use Rattle.sum_walk.specs.Walk.{sum_at, PartialSums}
-use Rattle.sum_terms.proofs.Summable.{Sums, sums_are, are_sums, middle, tests_append, checked_fit_lem}
+use Rattle.sum_terms.proofs.Summable.{Sums, are_sums, middle, tests_append, checked_fit_lem}
 use Rattle.sum_terms.proofs.Each.{drop_swap, sums_written}
 
--- no last word
-pub none_last : (ms : List ℕ) → length ms ≡ 0 → 0 ≡ get_or ms 0 0
-none_last [] none = refl
-none_last (m ∷ ms) none = absurd (omega arith)
+-- what the words in pairs leave: an odd last word, or none
+pub last_left : (done : ℕ) (ms : List ℕ) (r : Option (Bor ℕ)) → length ms ≤ done + 1 → IsItemAt ms done r → option_to_list (option_copied r) ≡ drop done ms
+last_left done ms None few at = sym (drop_of_length-le ms {i = done} at.3)
+last_left done ms (Some x) few at =
+    ap (λ (m : ℕ). m ∷ []) (at.4 (omega arith) 0) ∙ sym (drop-cons ms done 0 at.3.0 ∙ ap (λ (l : List ℕ). get_or ms done 0 ∷ l) (drop_of_length-le ms {i = suc done} (omega arith)))
 
 module _ (w : ℕ) where
-  -- the range test of an odd last word, or of none
-  last_tests : (asked : Bool) (ms : List ℕ) → length ms ≤ 1 → tests asked w (get_or ms 0 0 ∷ []) ≡ tests asked w ms
+  -- the range test of an odd last word, or of 0 for none
+  pub last_tests : (asked : Bool) (last : Option ℕ) → tests asked w (unwrap_or last 0 ∷ []) ≡ tests asked w (option_to_list last)
   unfolding tests fits
-  last_tests true [] few = rw (lt-ltb 0 (2 ^ w) (pow_pos w))
-  last_tests false [] few = refl
-  last_tests asked (m ∷ []) few = refl
-  last_tests asked (m ∷ m' ∷ ms) few = absurd (omega arith)
-
-  pub last_fit : (asked : Bool) (ms ks : List ℕ) (last : ℕ) (fit : Bool) → length ms ≤ 1 → last ≡ get_or ms 0 0
-      → fit ≡ (tests asked w (last ∷ []) && fits w ks)
-      → fit ≡ (tests asked w ms && fits w ks)
-  last_fit asked ms ks last fit few is e = e ∙ ap (λ (t : Bool). t && fits w ks) (ap (λ (m : ℕ). tests asked w (m ∷ [])) is ∙ last_tests asked ms few)
-
-  -- what no word adds, or one, as a sum over the key
-  pub none_added : (ms ks : List ℕ) → length ms ≡ 0 → 0 ≡ whole_sum w ms ks
-  unfolding whole_sum
-  none_added [] ks none = refl
-  none_added (m ∷ ms) ks none = absurd (omega arith)
-
-  pub one_added : (n : ℕ) (ms ks old new : List ℕ) → length ms ≡ 1 → summable w n (length ms) (length ks) ≡ true
-      → new ≡ checked_sums w n (get_or ms 0 0 ∷ []) ks old
-      → new ≡ written (λ i. (get_or old i 0 + whole_sum w ms (drop i ks)) % 2 ^ w) (min n (length old)) old
-  one_added n [] ks old new one can e = absurd (omega arith)
-  one_added n (m ∷ []) ks old new one can e = e ∙ sym (sums_written w n (m ∷ []) ks old (sums_are w n 1 (length ks) can))
-  one_added n (m ∷ m' ∷ ms) ks old new one can e = absurd (omega arith)
+  last_tests true None = rw (lt-ltb 0 (2 ^ w) (pow_pos w)) refl
+  last_tests false None = refl
+  last_tests asked (Some m) = refl
 
   -- sums that agree modulo 2^w are written alike
   pub totals_same : (n : ℕ) (f g : ℕ → ℕ) (old new : List ℕ) → ((i : ℕ) → i < n → f i % 2 ^ w ≡ g i % 2 ^ w)

@@ -35,7 +35,7 @@ module _ (s : Incremental) (eight : length s.held.sums ≡ 8) where
 
   edit_answer_lem : (ms ks : List ℕ) (place word : ℕ) → edit_row_answer (row_of s) ms ks place word ≡ edit_answer s ms ks place word
   unfolding edit_row_answer
-  edit_answer_lem ms ks place word = sym (answer_by_value refl kind refl) ∙ ap (λ (s : Incremental). edit_answer s ms ks place word) held
+  edit_answer_lem ms ks place word = sym (answer_by_value kind _) ∙ ap (λ (s : Incremental). edit_answer s ms ks place word) held
 
   edit_row_lem : (ms ks : List ℕ) (place word : ℕ) → edit_row (row_of s) ms ks place word ≡ row_of (edit_state s ms ks place word)
   unfolding edit_row edit_state
@@ -48,15 +48,15 @@ module _ (s : Incremental) (eight : length s.held.sums ≡ 8) where
 
   edit_message_lem : (ms ks : List ℕ) (place word : ℕ) → edit_row_message (row_of s) ms ks place word ≡ edit_message s ms ks place word
   unfolding edit_row_message
-  edit_message_lem ms ks place word = sym (left_by_value refl kind ms refl) ∙ ap (λ (s : Incremental). edit_message s ms ks place word) held
+  edit_message_lem ms ks place word = sym (left_by_value kind _ ms) ∙ ap (λ (s : Incremental). edit_message s ms ks place word) held
 
   read_answer_lem : (out : List ℕ) → read_row_answer (row_of s) out ≡ read_answer s out
   unfolding read_row_answer
-  read_answer_lem out = sym (answer_by_value refl kind refl) ∙ ap (λ (s : Incremental). read_answer s out) held
+  read_answer_lem out = sym (answer_by_value kind _) ∙ ap (λ (s : Incremental). read_answer s out) held
 
   read_row_lem : (out : List ℕ) → read_row_out (row_of s) out ≡ read_row s out
   unfolding read_row_out
-  read_row_lem out = sym (left_by_value refl kind out refl) ∙ ap (λ (s : Incremental). read_row s out) held
+  read_row_lem out = sym (left_by_value kind _ out) ∙ ap (λ (s : Incremental). read_row s out) held
 
 pub state_is_kept : StateKept
 unfolding StateKept

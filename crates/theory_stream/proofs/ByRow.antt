@@ -56,7 +56,7 @@ module _ (s : Stream) (z : Sized s) where
 
   push_answer_lem : (ms ks : List ℕ) → push_row_answer (row_of s) ms ks ≡ push_answer s ms ks
   unfolding push_row_answer
-  push_answer_lem ms ks = sym (answer_by_value refl kind refl) ∙ ap (λ (s : Stream). push_answer s ms ks) held
+  push_answer_lem ms ks = sym (answer_by_value kind _) ∙ ap (λ (s : Stream). push_answer s ms ks) held
 
   push_row_lem : (ms ks : List ℕ) → push_row (row_of s) ms ks ≡ row_of (push_state s ms ks)
   unfolding push_row push_state
@@ -69,11 +69,11 @@ module _ (s : Stream) (z : Sized s) where
 
   read_answer_lem : (out : List ℕ) → read_row_answer (row_of s) out ≡ read_answer s out
   unfolding read_row_answer
-  read_answer_lem out = sym (answer_by_value refl kind refl) ∙ ap (λ (s : Stream). read_answer s out) held
+  read_answer_lem out = sym (answer_by_value kind _) ∙ ap (λ (s : Stream). read_answer s out) held
 
   read_row_lem : (out : List ℕ) → read_row_out (row_of s) out ≡ read_row s out
   unfolding read_row_out
-  read_row_lem out = sym (left_by_value refl kind out refl) ∙ ap (λ (s : Stream). read_row s out) held
+  read_row_lem out = sym (left_by_value kind _ out) ∙ ap (λ (s : Stream). read_row s out) held
 
 -- all parts by row
 record Follows (s : Stream) (ps : List Part) : Type 0 where

@@ -1,11 +1,7 @@
--- `bench_streams::push_all` meets its contract: after i turns the state has taken i pushes.
-use mathlib.Core.Path.{◌≡◌}
-use Prim.Native.Nat.{◌-◌, ◌≤◌}
+-- `bench_streams::push_all` meets its contract: after so many turns the state has taken as many pushes.
+use Rattle.std.proofs.Common.{◌≡◌}
 use Rattle.bench_streams.specs.Pushes.{pushes}
 use Rattle.bench_streams.proofs.push_all.Given as goal
 
-abbrev pub invariant-loop-i : goal.invariant-loop-i
-invariant-loop-i l = (l.i ≤ l.rounds) × (l.state ≡ pushes l.i l.initial.state l.message l.key)
-
-abbrev pub decreases-loop-i : goal.decreases-loop-i
-decreases-loop-i l = l.rounds - l.i
+abbrev pub invariant-loop : goal.invariant-loop
+invariant-loop l = l.state ≡ pushes l.counter l.initial.state l.message l.key

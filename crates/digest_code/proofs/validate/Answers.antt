@@ -1,9 +1,11 @@
--- `digest_code::validate` meets its contract: each return is the first test that holds, whatever is answered later. A width that passed is at most 32.
-use mathlib.Core.Path.{◌≡◌, sym, ap, ◌∙◌}
+-- `digest_code::validate` meets its contract: the first check that refuses, else the last. A width that passed is at most 32.
+use mathlib.Core.Path.{◌≡◌, ap, ◌∙◌}
 use Prim.Native.Nat.{ℕ, min, ◌≤◌}
 use native.Mathlib.Omega.{arith}
+use Rattle.answers.specs.Refusals.{number}
+use Rattle.answers.proofs.Validation.{width_passed}
+use Rattle.answers.proofs.Refused.{handed_on, first_stops, later_stops, last_decides, told, row_passed}
 use Rattle.digest_code.specs.Digits.{bad_digits}
-use Rattle.answers.proofs.Validation.{validated, width_passed}
 use Rattle.digest_code.specs.Call.{code_tests}
 use Rattle.digest_code.proofs.validate.Goals as goal
 use Rattle.digest_code.proofs.validate.Goals.{After-bad_digits}
@@ -11,34 +13,36 @@ use Rattle.digest_code.proofs.validate.Goals.{After-bad_digits}
 asked : (c : After-bad_digits) → c.bad_digits.result ≡ bad_digits c.args.w c.args.d
 asked c =
     let a = c.args in
-    let narrow : a.w ≤ 32 = (width_passed a.w (sym c.bad_width.ensures ∙ c.if-bad_width.false)).1 in
+    let narrow : a.w ≤ 32 = (width_passed a.w (row_passed _ _ c.in_ok-width.ensures)).1 in
     let same : min a.w 32 ≡ a.w = omega arith in
     c.bad_digits.ensures ∙ ap (λ (v : ℕ). bad_digits v a.d) same
 
-pub returns-then-bad_width : goal.returns-then-bad_width
+pub returns-in_err-width : goal.returns-in_err-width
 unfolding code_tests
-returns-then-bad_width c = λ later. search validated depth 9
+returns-in_err-width c = handed_on _ _ _ c.from_residual.ensures.1 (first_stops _ _ _ c.in_err-width.ensures)
 
-pub returns-then-bad_digits : goal.returns-then-bad_digits
+pub returns-in_err-check : goal.returns-in_err-check
 unfolding code_tests
-returns-then-bad_digits c = let digits = asked (goal.at.returns-then-bad_digits c).After-bad_digits in λ later. search validated depth 9
+returns-in_err-check c =
+    let digits = told _ _ _ (number c.in_err-check.field-0.0) (asked (goal.at.returns-in_err-check c).After-bad_digits) c.in_err-check.ensures in
+    handed_on _ _ _ c.from_residual-in_err-check.ensures.1 (later_stops _ _ _ c.in_ok-width.ensures (first_stops _ _ _ digits))
 
-pub returns-then-too_long : goal.returns-then-too_long
+pub returns-in_err-long : goal.returns-in_err-long
 unfolding code_tests
-returns-then-too_long c = let digits = asked (goal.at.returns-then-too_long c).After-bad_digits in λ later. search validated depth 9
+returns-in_err-long c =
+    let digits = told _ _ _ 0 (asked (goal.at.returns-in_err-long c).After-bad_digits) c.in_ok-check.ensures in
+    handed_on _ _ _ c.from_residual-in_err-long.ensures.1 (later_stops _ _ _ c.in_ok-width.ensures (later_stops _ _ _ digits (first_stops _ _ _ c.in_err-long.ensures)))
 
-pub returns-then-bad_key : goal.returns-then-bad_key
+pub returns-in_err-key : goal.returns-in_err-key
 unfolding code_tests
-returns-then-bad_key c = let digits = asked (goal.at.returns-then-bad_key c).After-bad_digits in λ later. search validated depth 9
-
-pub returns-then-small_tray : goal.returns-then-small_tray
-unfolding code_tests
-returns-then-small_tray c =
-    let digits = asked (goal.at.returns-then-small_tray c).After-bad_digits in
-    λ later. rw (← c.bytes_of.ensures) (search validated depth 9)
+returns-in_err-key c =
+    let digits = told _ _ _ 0 (asked (goal.at.returns-in_err-key c).After-bad_digits) c.in_ok-check.ensures in
+    handed_on _ _ _ c.from_residual-in_err-key.ensures.1
+    (later_stops _ _ _ c.in_ok-width.ensures (later_stops _ _ _ digits (later_stops _ _ _ c.in_ok-long.ensures (first_stops _ _ _ c.in_err-key.ensures))))
 
 pub returns : goal.returns
 unfolding code_tests
 returns c =
-    let digits = asked (goal.at.returns c).After-bad_digits in
-    λ later. rw (← c.bytes_of.ensures) (search validated depth 9)
+    let digits = told _ _ _ 0 (asked (goal.at.returns c).After-bad_digits) c.in_ok-check.ensures in
+    rw (← c.bytes_of.ensures)
+    (last_decides _ _ c.tray.result c.in_ok-width.ensures (last_decides _ _ _ digits (last_decides _ _ _ c.in_ok-long.ensures (last_decides _ _ _ c.in_ok-key.ensures c.tray.ensures))))

@@ -1,11 +1,13 @@
 -- `digest_peers::digest_peers` meets its contract: a refusal writes nothing, and an accepted call writes the digests.
 use mathlib.Core.Path.{◌≡◌, refl, sym, ap, ap₂, ◌∙◌}
 use mathlib.Core.Bool.{Bool, true, false, ◌&&◌, and-false}
-use mathlib.Core.List.{List, ◌++◌}
+use mathlib.Core.List.{List, [], ◌++◌}
 use Prim.Native.Nat.{ℕ, ◌+◌, ◌*◌, ◌<◌, ◌≤◌}
 use native.Mathlib.Omega.{arith}
-use lib.ListN.{length, drop}
+use lib.ListN.{length, take, drop}
+use lib.Seq.{length-take-le, get_or-take}
 use Rattle.theory_counts.specs.Words.{fits}
+use Rattle.answers.proofs.Refused.{some_number, number_handed_on}
 use Rattle.answers.proofs.Rows.{refused, accepted}
 use Rattle.sum_peers.proofs.Suffices.{row_within}
 use Rattle.digest_peers.specs.Call.{peers_row}
@@ -14,9 +16,12 @@ use Rattle.digest_peers.proofs.Kept.{rows_digests}
 use Rattle.digest_peers.proofs.Valid.{peers_refused, peers_reached, peers_answered, suffices}
 use Rattle.digest_peers.proofs.digest_peers.Goals as goal
 
-pub returns-then-answer-ne0 : goal.returns-then-answer-ne0
+pub returns-in_err-validate : goal.returns-in_err-validate
 unfolding peers_row
-returns-then-answer-ne0 c = refused _ _ (peers_refused _ _ _ _ _ _ _ c.validate-answer.ensures c.if-answer-ne0.true) c.if-answer-ne0.true
+returns-in_err-validate c =
+    let some = some_number c.in_err-validate.field-0.0 in
+    let answered = refused _ _ (peers_refused _ _ _ _ _ _ _ c.in_err-validate.ensures some) some in
+    (number_handed_on _ _ _ c.from_residual.ensures.1 answered.0, answered.1)
 
 pub returns-then-not-row_fits : goal.returns-then-not-row_fits
 unfolding peers_row
@@ -24,39 +29,51 @@ returns-then-not-row_fits c =
     let a = c.args in
     let unfit : false ≡ (fits a.w a.message.now && fits a.w a.keys.now) =
     sym (and-false (fits a.w a.message.now)) ∙ ap (λ (t : Bool). fits a.w a.message.now && t) (sym (c.if-not-row_fits.true) ∙ c.row_fits.ensures) in
-    refused _ _ (peers_answered _ _ _ _ _ _ _ c.validate-answer.ensures c.if-answer-ne0.false unfit) (λ z. omega arith)
+    refused _ _ (peers_answered _ _ _ _ _ _ _ c.in_ok-validate.ensures refl unfit) (λ z. omega arith)
 
-pub returns-then-not-fit : goal.returns-then-not-fit
+pub returns-in_default : goal.returns-in_default
 unfolding peers_row
-returns-then-not-fit c =
+returns-in_default c =
     let a = c.args in
-    let p = peers_reached _ _ _ _ _ _ _ c.validate-answer.ensures c.if-answer-ne0.false in
-    let summed = c.row_sums-rows.ensures.0 (suffices p) in
-    let unfit : false ≡ (fits a.w a.message.now && fits a.w a.keys.now) =
-    ap (λ (t : Bool). t && fits a.w a.keys.now) (sym (c.if-not-fit.true) ∙ summed.1) in
-    refused _ _ (peers_answered _ _ _ _ _ _ _ c.validate-answer.ensures c.if-answer-ne0.false unfit) (λ z. omega arith)
+    let p = peers_reached _ _ _ _ _ _ _ c.in_ok-validate.ensures refl in
+    let summed = c.in_default.ensures.0 (suffices p) in
+    let unfit : false ≡ (fits a.w a.message.now && fits a.w a.keys.now) = ap (λ (t : Bool). t && fits a.w a.keys.now) summed.1 in
+    refused _ _ (peers_answered _ _ _ _ _ _ _ c.in_ok-validate.ensures refl unfit) (λ z. omega arith)
+
+-- the rows of the peers
+pub slice_bounds-rows-end : goal.slice_bounds-rows-end
+slice_bounds-rows-end c =
+    let p = peers_reached _ _ _ _ _ _ _ c.in_ok-validate.ensures refl in
+    omega (arith, p.peers, (c.in-Ok.ensures.0 (suffices p)).0.0)
+
+pub slice_bounds-write_rows-end : goal.slice_bounds-write_rows-end
+slice_bounds-write_rows-end c =
+    let p = peers_reached _ _ _ _ _ _ _ c.in_ok-validate.ensures refl in
+    sym (length-take-le c.args.p c.in-Ok.rows (omega (arith, p.peers, (c.in-Ok.ensures.0 (suffices p)).0.0)))
 
 pub write_rows-requires : goal.write_rows-requires
 write_rows-requires c =
-    let p = peers_reached _ _ _ _ _ _ _ c.validate-answer.ensures c.if-answer-ne0.false in
-    (omega (arith, p.settings.kept, p.settings.width), p.settings.words, p.peers, p.room)
+    let p = peers_reached _ _ _ _ _ _ _ c.in_ok-validate.ensures refl in
+    let few : length (take c.args.p c.in-Ok.rows) ≡ c.args.p = length-take-le c.args.p c.in-Ok.rows (omega (arith, p.peers, (c.in-Ok.ensures.0 (suffices p)).0.0)) in
+    rw few (omega (arith, p.settings.kept, p.settings.width), p.settings.words, p.peers, p.room)
 
 pub returns : goal.returns
 unfolding peers_row
 returns c =
     let a = c.args in
-    let p = peers_reached _ _ _ _ _ _ _ c.validate-answer.ensures c.if-answer-ne0.false in
+    let p = peers_reached _ _ _ _ _ _ _ c.in_ok-validate.ensures refl in
     let s = p.settings in
     let ms = a.message.now in
     let ks = a.keys.now in
     let size = length ms + a.n in
-    let rows = c.row_sums-rows.result in
-    let summed = c.row_sums-rows.ensures.0 (suffices p) in
+    let rows = c.in-Ok.rows in
+    let summed = c.in-Ok.ensures.0 (suffices p) in
     let keys-fit = c.row_fits.ensures in
     let fits_all : true ≡ (fits a.w ms && fits a.w ks) =
-    ap₂ (λ (x y : Bool). x && y) (sym (c.if-not-fit.false) ∙ summed.1) (sym (c.if-not-row_fits.false) ∙ keys-fit) in
-    let answer = peers_answered _ _ _ _ _ _ _ c.validate-answer.ensures c.if-answer-ne0.false fits_all in
+    ap₂ (λ (x y : Bool). x && y) summed.1 (sym (c.if-not-row_fits.false) ∙ keys-fit) in
+    let answer = peers_answered _ _ _ _ _ _ _ c.in_ok-validate.ensures refl fits_all in
     let within : (q : ℕ) → q < a.p → q * size + size ≤ length ks = λ q lt. omega (arith, p.keys, row_within size q a.p lt) in
-    let digests = rows_digests a.w a.b a.n ms ks s.width s.kept s.words a.p rows within p.peers summed.0.1 in
+    let few : length (take a.p rows) ≡ a.p = length-take-le a.p rows (omega (arith, p.peers, summed.0.0)) in
+    let digests = rows_digests a.w a.b a.n ms ks s.width s.kept s.words a.p (take a.p rows) within p.peers (λ q lt. rw (get_or-take a.p rows q [] lt) (summed.0.1 q lt)) in
     let places = ap (λ (k : ℕ). drop k a.out.now) (sym (length_rows a.w a.b a.n ms ks a.p)) in
-    accepted _ _ answer _ refl (c.write_rows.ensures ∙ ap₂ (λ (x y : List ℕ). x ++ y) digests places)
+    accepted _ _ answer _ refl (rw few at c.write_rows.ensures ∙ ap₂ (λ (x y : List ℕ). x ++ y) digests places)

@@ -1,19 +1,19 @@
 -- `incremental_rows::read` meets its contract: State, or what a reading by value does.
-use mathlib.Core.Path.{refl}
-use Rattle.state_rows.proofs.Calls.{no_state, not_left, answer_by_value, left_by_value}
-use Rattle.incremental_rows.specs.Rows.{state_of}
+use mathlib.Core.Path.{◌∙◌}
+use Rattle.answers.proofs.Refused.{same_refusal}
+use Rattle.state_rows.proofs.Calls.{no_state, not_left, is_one, answer_by_value, left_by_value}
 use Rattle.incremental_rows.specs.Calls.{read_row_answer, read_row_out}
-use Rattle.incremental_rows.proofs.Rows.{ours, another}
 use Rattle.incremental_rows.proofs.read.Goals as goal
 
-pub returns-then-state-ne-WORDS : goal.returns-then-state-ne-WORDS
+pub returns-in_err-from_row : goal.returns-in_err-from_row
 unfolding read_row_answer read_row_out
-returns-then-state-ne-WORDS c =
-    let none = another _ c.if-state-ne-WORDS.true in
-    (no_state refl none _, not_left refl none _ _)
+returns-in_err-from_row c =
+    let none = c.in_err-from_row.ensures.0 in
+    (same_refusal _ _ c.from_residual.ensures.1 ∙ no_state _ _ none _, not_left _ _ none _ _)
 
 pub returns : goal.returns
-unfolding read_row_answer read_row_out state_of
+unfolding read_row_answer read_row_out
 returns c =
-    let one = ours _ c.if-state-ne-WORDS.false in
-    (answer_by_value refl one (rw c.from_row-held.ensures at c.read.ensures.0), left_by_value refl one _ (rw c.from_row-held.ensures at c.read.ensures.1))
+    let one = is_one _ c.in_ok-from_row.ensures.0 in
+    let held = c.in_ok-from_row.ensures.1 in
+    ((rw held at c.read.ensures.0) ∙ answer_by_value one _, (rw held at c.read.ensures.1) ∙ left_by_value one _ _)

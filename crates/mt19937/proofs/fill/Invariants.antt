@@ -1,5 +1,5 @@
 -- `mt19937::fill` meets its contract. Before turn i the first i words are written, and p is word i.
-use Rattle.std.proofs.Common.{◌≡◌, zero, ◌-◌, ◌≤◌, ℕ, List, replicate}
+use Rattle.std.proofs.Common.{◌≡◌, zero, ◌≤◌, ℕ, List, replicate}
 use Rattle.mt19937.specs.Published.{new_word}
 use Rattle.rows.specs.Written.{written}
 use Rattle.mt19937.proofs.fill.Given as goal
@@ -9,7 +9,4 @@ abbrev pub zeros : List ℕ
 zeros = replicate 624 zero
 
 abbrev pub invariant-loop-i : goal.invariant-loop-i
-invariant-loop-i l = (l.i ≤ 624) × (l.p ≡ new_word l.seed l.i) × (l.words ≡ written (new_word l.seed) l.i zeros)
-
-abbrev pub decreases-loop-i : goal.decreases-loop-i
-decreases-loop-i l = 624 - l.i
+invariant-loop-i l = (l.i ≤ 624) × (l.p ≡ new_word l.seed l.i) × (l.word-items ≡ written (new_word l.seed) l.i zeros)

@@ -5,5 +5,5 @@ use Rattle.mt19937.proofs.make_ready.Goals as goal
 pub returns-then-at-eq-SIZE : goal.returns-then-at-eq-SIZE
 returns-then-at-eq-SIZE c = rw c.refill_all.ensures (ready_used _ _ c.if-at-eq-SIZE.true)
 
-pub returns : goal.returns
-returns c = ready_other _ _ c.if-at-eq-SIZE.false
+pub returns-else-at-eq-SIZE : goal.returns-else-at-eq-SIZE
+returns-else-at-eq-SIZE c = ready_other _ _ c.if-at-eq-SIZE.false

@@ -8,5 +8,5 @@ use Rattle.mt19937_array.proofs.fill_by_array.Goals as goal
 pub returns : goal.returns
 unfolding array_words seeded
 returns c =
-    let filled = ap (λ (g : Generator). g.words) c.new-filled.ensures in
-    cc (c.subtract_index.ensures, c.add_seed-i.ensures.0, filled)
+    let filled = ap (λ (g : Generator). g.words) c.new.ensures in
+    cc (c.subtract_index.ensures, c.add_seed.ensures.words, filled)

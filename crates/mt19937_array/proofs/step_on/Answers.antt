@@ -4,10 +4,10 @@ use borrow.Author.Tests.{lt-leb}
 use Rattle.mt19937_array.specs.SeedArray.{onward}
 use Rattle.mt19937_array.proofs.step_on.Goals as goal
 
-pub returns-then-end-next : goal.returns-then-end-next
+pub returns-then-i-end : goal.returns-then-i-end
 unfolding onward
-returns-then-end-next c = rw (le-leb _ _ c.if-end-next.true)
+returns-then-i-end c = rw (lt-leb _ _ c.if-i-end.true)
 
-pub returns : goal.returns
+pub returns-else-i-end : goal.returns-else-i-end
 unfolding onward
-returns c = rw (lt-leb _ _ c.if-end-next.false)
+returns-else-i-end c = rw (le-leb _ _ c.if-i-end.false)

@@ -1,11 +1,7 @@
--- `run_lengths::digest_of_one` meets its contract: the call is accepted, and its word is the digest's.
-use native.Mathlib.Omega.{arith}
+-- `run_lengths::digest_of_one` meets its contract: the call is accepted.
 use borrow.Author.Rules.{rules}
-use Rattle.run_lengths.proofs.Laws.{call_word, call_small, one_accepted}
+use Rattle.run_lengths.proofs.Laws.{one_accepted}
 use Rattle.run_lengths.proofs.digest_of_one.Goals as goal
 
-pub overflow_cast-result : goal.overflow_cast-result
-overflow_cast-result c = record { fits = omega (arith, call_small _ _ _ (one_accepted _ _ _ (search rules) (search rules) (search rules)) c.digest_bytes.ensures.1) }
-
-pub returns : goal.returns
-returns c = call_word _ _ _ (one_accepted _ _ _ (search rules) (search rules) (search rules)) c.digest_bytes.ensures.1
+pub digest-requires : goal.digest-requires
+digest-requires c = one_accepted _ _ _ (search rules) (search rules) (search rules)

@@ -1,27 +1,37 @@
-use mathlib.Core.Path.{◌≡◌, sym, ◌∙◌}
+use mathlib.Core.Path.{◌≡◌, refl, sym, ◌∙◌}
+use Prim.Native.Nat.{◌+◌}
+use native.Mathlib.Nat.{add-zero}
 use native.Mathlib.Omega.{arith}
 use borrow.Author.Rules.{rules}
 use Rattle.theory_counts.specs.Count.{sum_to}
 use Rattle.theory_counts.proofs.Sums.{sum_next}
-use Rattle.run_lengths.proofs.Laws.{in_order, one_turn}
+use Rattle.run_lengths.proofs.Laws.{keys_after, first_word_done, in_order, one_turn}
 use Rattle.run_lengths.proofs.keys_of.Goals as goal
 
-pub loop-i-init : goal.loop-i-init
+pub loop-first-init : goal.loop-first-init
 unfolding sum_to
-loop-i-init c = search rules
+loop-first-init c = (refl, omega arith)
 
-pub digest_of_none-wanted-requires : goal.digest_of_none-wanted-requires
-digest_of_none-wanted-requires c = (omega arith, omega arith)
+pub loop-second-init : goal.loop-second-init
+unfolding sum_to
+loop-second-init c = (c.loop-first.invariant.0 ∙ sym (add-zero _), search rules)
 
-pub digest_of_one-start-requires : goal.digest_of_one-start-requires
-digest_of_one-start-requires c = (omega arith, omega arith)
+pub loop-second-preserved : goal.loop-second-preserved
+loop-second-preserved c =
+    let turn = one_turn _ _ _ _ _ _ _ c.requires c.digest_of_none-wanted.ensures c.digest_of_one-start.ensures c.agreeing-count.ensures.0 in
+    let l = c.loop-second in
+    let first = c.loop-first.first in
+    let byte = c.args.byte in
+    let next : sum_to l.second (keys_after byte first) + c.agreeing-count.result ≡ sum_to (l.second + 1) (keys_after byte first) = sum_next _ _ _ _ refl turn in
+    (omega (arith, l.invariant.0, next), omega (arith, c.agreeing-count.ensures.1))
 
-pub loop-i-preserved : goal.loop-i-preserved
-loop-i-preserved c =
-    let turn = one_turn _ _ _ _ _ _ c.requires c.digest_of_none-wanted.ensures c.digest_of_one-start.ensures c.agreeing-count.ensures.0 in
-    (sum_next _ _ _ _ c.loop-i.invariant.0 turn, search rules)
+pub loop-first-preserved : goal.loop-first-preserved
+loop-first-preserved c =
+    let l = c.loop-second in
+    let all : l.second ≡ 256 = omega arith in
+    ((rw all at l.invariant.0) ∙ sum_next _ _ _ _ refl (first_word_done _ _), omega arith)
 
 pub returns : goal.returns
 returns c =
-    let all : c.loop-i.i ≡ 65536 = omega arith in
-    (rw all at c.loop-i.invariant.0) ∙ sym (in_order _)
+    let all : c.loop-first.first ≡ 256 = omega arith in
+    (rw all at c.loop-first.invariant.0) ∙ sym (in_order _)

@@ -1,20 +1,16 @@
--- `state_sums::settings` meets its contract: each return is the first test that holds.
-use Rattle.answers.proofs.Validation.{validated}
+-- `state_sums::settings` meets its contract: the first check that refuses, else the last.
+use Rattle.answers.proofs.Refused.{handed_on, first_stops, later_stops, last_decides}
 use Rattle.state_sums.specs.State.{settings_tests}
 use Rattle.state_sums.proofs.settings.Goals as goal
 
-pub returns-then-bad_width : goal.returns-then-bad_width
+pub returns-in_err-width : goal.returns-in_err-width
 unfolding settings_tests
-returns-then-bad_width c later = search validated depth 9
+returns-in_err-width c = handed_on _ _ _ c.from_residual.ensures.1 (first_stops _ _ _ c.in_err-width.ensures)
 
-pub returns-then-bad_kept : goal.returns-then-bad_kept
+pub returns-in_err-kept : goal.returns-in_err-kept
 unfolding settings_tests
-returns-then-bad_kept c later = search validated depth 9
-
-pub returns-then-bad_count : goal.returns-then-bad_count
-unfolding settings_tests
-returns-then-bad_count c later = search validated depth 9
+returns-in_err-kept c = handed_on _ _ _ c.from_residual-in_err-kept.ensures.1 (later_stops _ _ _ c.in_ok-width.ensures (first_stops _ _ _ c.in_err-kept.ensures))
 
 pub returns : goal.returns
 unfolding settings_tests
-returns c later = search validated depth 9
+returns c = last_decides _ _ _ c.in_ok-width.ensures (last_decides _ _ _ c.in_ok-kept.ensures c.count.ensures)

@@ -1,26 +1,30 @@
 -- `stream_rows::push` meets its contract: State, or what a push by value does; only an accepted one writes.
-use mathlib.Core.Path.{sym, ap, ◌∙◌}
-use Rattle.state_rows.proofs.Calls.{not_taken, row_refused, row_taken}
+use mathlib.Core.Path.{refl, sym, ap, ◌∙◌}
+use Rattle.answers.proofs.Refused.{state_stays}
+use Rattle.answers.proofs.States.{state_accepted}
+use Rattle.state_rows.proofs.Calls.{no_state, is_one, answer_by_value}
 use Rattle.state_rows.proofs.Pieces.{last_piece}
 use Rattle.stream_rows.specs.Rows.{row_of}
 use Rattle.stream_rows.proofs.Rows.{stream_length}
 use Rattle.stream_rows.specs.Calls.{push_row_answer, push_row}
 use Rattle.stream_rows.proofs.push.Goals as goal
 
-pub returns-then-not-is_stream : goal.returns-then-not-is_stream
+pub returns-in_err-stream : goal.returns-in_err-stream
 unfolding push_row_answer push_row
-returns-then-not-is_stream c = not_taken c.is_stream.ensures (c.if-not-is_stream.true) _ _ _
+returns-in_err-stream c = state_stays _ _ c.from_residual.ensures.1 (no_state _ _ c.in_err-stream.ensures.0 _) _ _
 
-pub returns-then-pushed-ne0 : goal.returns-then-pushed-ne0
+pub returns-in_err-push : goal.returns-in_err-push
 unfolding push_row_answer push_row
-returns-then-pushed-ne0 c =
-    row_refused c.is_stream.ensures (c.if-not-is_stream.false) _ _ (rw c.state_of.ensures at c.push-pushed.ensures.0) c.if-pushed-ne0.true
+returns-in_err-push c =
+    let one = is_one _ c.in_ok-stream.ensures.0 in
+    state_stays _ _ c.from_residual-in_err-push.ensures.1 ((rw c.in_ok-stream.ensures.1 at c.in_err-push.ensures.0) ∙ answer_by_value one _) _ _
 
 pub returns : goal.returns
 unfolding push_row_answer push_row
 returns c =
-    let s = c.push-pushed.result.state in
-    let one = c.if-not-is_stream.false in
-    let all = c.write.ensures.1 ∙ sym (stream_length _ (sym c.is_stream.ensures ∙ one)) in
-    row_taken c.is_stream.ensures one _ _ _ (rw c.state_of.ensures at c.push-pushed.ensures.0) c.if-pushed-ne0.false
-    (last_piece (row_of s) _ _ all c.write.ensures.0 ∙ ap row_of (rw c.state_of.ensures at c.push-pushed.ensures.1))
+    let one = is_one _ c.in_ok-stream.ensures.0 in
+    let held = c.in_ok-stream.ensures.1 in
+    let s = c.push.new.self in
+    let all = c.write.ensures.1 ∙ sym (stream_length _ one) in
+    state_accepted _ _ ((rw held at c.in_ok-push.ensures.0) ∙ answer_by_value one _) _ refl
+    (last_piece (row_of s) _ _ all c.write.ensures.0 ∙ ap row_of (rw held at c.in_ok-push.ensures.1))

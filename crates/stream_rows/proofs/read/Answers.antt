@@ -1,17 +1,19 @@
 -- `stream_rows::read` meets its contract: State, or what a reading by value does.
-use Rattle.state_rows.proofs.Calls.{no_state, not_left, answer_by_value, left_by_value}
+use mathlib.Core.Path.{◌∙◌}
+use Rattle.answers.proofs.Refused.{same_refusal}
+use Rattle.state_rows.proofs.Calls.{no_state, not_left, is_one, answer_by_value, left_by_value}
 use Rattle.stream_rows.specs.Calls.{read_row_answer, read_row_out}
 use Rattle.stream_rows.proofs.read.Goals as goal
 
-pub returns-then-not-is_stream : goal.returns-then-not-is_stream
+pub returns-in_err-from_row : goal.returns-in_err-from_row
 unfolding read_row_answer read_row_out
-returns-then-not-is_stream c =
-    let none = c.if-not-is_stream.true in
-    (no_state c.is_stream.ensures none _, not_left c.is_stream.ensures none _ _)
+returns-in_err-from_row c =
+    let none = c.in_err-from_row.ensures.0 in
+    (same_refusal _ _ c.from_residual.ensures.1 ∙ no_state _ _ none _, not_left _ _ none _ _)
 
 pub returns : goal.returns
 unfolding read_row_answer read_row_out
 returns c =
-    let kind = c.is_stream.ensures in
-    let one = c.if-not-is_stream.false in
-    (answer_by_value kind one (rw c.state_of.ensures at c.read.ensures.0), left_by_value kind one _ (rw c.state_of.ensures at c.read.ensures.1))
+    let one = is_one _ c.in_ok-from_row.ensures.0 in
+    let held = c.in_ok-from_row.ensures.1 in
+    ((rw held at c.read.ensures.0) ∙ answer_by_value one _, (rw held at c.read.ensures.1) ∙ left_by_value one _ _)

@@ -1,21 +1,25 @@
--- `stretch::load` meets its contract: a refusal writes nothing, and an accepted call writes the two rows of the new generator.
-use mathlib.Core.Path.{sym, ◌∙◌}
-use Rattle.mt19937.specs.Published.{seeded}
-use Rattle.stretch.specs.Load.{load_key, load_message}
-use Rattle.stretch.proofs.Loads.{of_a_seed, load_width, load_refused, load_accepted, seeded_fit}
+-- `stretch::load` meets its contract: a refusal writes nothing, and an accepted call writes the two rows of the generator that the seed makes.
+use mathlib.Core.Path.{sym, refl, ap, ◌∙◌}
+use lib.ListN.{length}
+use Rattle.answers.proofs.Refused.{some_number, same_refusal}
+use Rattle.stretch.specs.Stretch.{after}
+use Rattle.stretch.proofs.Rows.{row_of}
+use Rattle.stretch.proofs.Loads.{load_refused, load_accepted, load_width}
 use Rattle.stretch.proofs.load.Goals as goal
 
-pub returns-then-answer-ne0 : goal.returns-then-answer-ne0
-unfolding load_key load_message
-returns-then-answer-ne0 c = load_refused _ _ _ _ (c.validate-answer.ensures ∙ of_a_seed _ _ _) c.if-answer-ne0.true
+pub returns-in_err-validate : goal.returns-in_err-validate
+returns-in_err-validate g c =
+    let e = same_refusal _ _ c.from_residual.ensures.1 in
+    load_refused _ _ _ _ (e ∙ (rw c.words.ensures at c.in_err-validate.ensures)) (λ z. some_number _ (sym e ∙ z))
 
-pub write_rows-requires : goal.write_rows-requires
-write_rows-requires c =
-    let fit = load_width _ _ _ _ (sym c.validate-answer.ensures ∙ c.if-answer-ne0.false) in
-    (fit.0, fit.1, seeded_fit _ c.new.ensures)
+pub key_row-next-requires : goal.key_row-next-requires
+key_row-next-requires g c = let fit = load_width _ _ _ _ (sym c.in_ok-validate.ensures) in (fit.0, fit.1, c.generator-at.ensures.1)
+
+pub key_row-requires : goal.key_row-requires
+key_row-requires g c = let fit = load_width _ _ _ _ (sym c.in_ok-validate.ensures) in (fit.0, fit.1, c.key_row-next.ensures.2)
 
 pub returns : goal.returns
-unfolding load_key load_message
-returns c =
-    let g = c.new.ensures in
-    load_accepted _ (seeded _) _ _ (c.validate-answer.ensures ∙ of_a_seed _ _ _) c.if-answer-ne0.false (rw g at c.write_rows.ensures)
+returns g c =
+    let made = c.generator-at.ensures.0 in
+    let row = c.key_row-next.ensures in
+    load_accepted _ _ _ _ (rw c.words.ensures at c.in_ok-validate.ensures) (refl {a = 0}) (row_of _ _ made row.0, row_of _ _ (row.1 ∙ ap (after (length c.args.key.now)) made) c.key_row.ensures.0)

@@ -1,19 +1,15 @@
--- `sum_bytes::load` meets its contract: the bytes of a full word, the first lowest.
-use native.Mathlib.Omega.{arith}
-use Rattle.sum_bytes.proofs.Words.{little_one, little_two, little_four}
+-- `sum_bytes::load` meets its contract: the first bytes over zeros.
+use mathlib.Core.Path.{ap, ◌∙◌}
+use mathlib.Core.List.{List, ◌++◌}
+use Prim.Native.Nat.{ℕ}
+use lib.ListN.{replicate, drop}
+use Rattle.sum_bytes.specs.Bytes.{little_endian}
+use Rattle.sum_bytes.proofs.Words.{little_four, little_loaded}
 use Rattle.sum_bytes.proofs.load.Goals as goal
 
-pub returns-then-c-eq1 : goal.returns-then-c-eq1
-returns-then-c-eq1 c =
-    let a = c.args in
-    omega (arith, little_one a.c a.at a.bytes.now (omega arith))
-
-pub returns-then-c-eq2 : goal.returns-then-c-eq2
-returns-then-c-eq2 c =
-    let a = c.args in
-    omega (arith, little_two a.c a.at a.bytes.now (omega arith))
-
 pub returns : goal.returns
-returns c =
-    let a = c.args in
-    omega (arith, little_four a.c a.at a.bytes.now (omega arith))
+returns g c =
+    c.from_le_bytes.ensures
+    ∙ little_four _
+    ∙ ap (λ (l : List ℕ). little_endian 4 (l ++ drop g.row.C (replicate 4 0))) c.copy_from_slice.ensures.after
+    ∙ little_loaded g.row.C c.args.bytes.now c.requires.0 c.requires.1

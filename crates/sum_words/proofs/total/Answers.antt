@@ -12,8 +12,8 @@ returns c =
     let walked = a.low + a.high / 2 ^ a.w in
     c.keep.ensures
     ∙ reduced a.w 32 _ (omega arith)
-    ∙ ap (λ (n : ℕ). n % 2 ^ a.w) (c.wrapping_add_u64-whole.ensures.value ∙ ap (λ (n : ℕ). (a.sum + n) % 2 ^ 64) c.wrapping_add_u64-walked.ensures.value)
     ∙ reduced a.w 64 _ (omega arith)
+    ∙ ap (λ (n : ℕ). (n + walked % 2 ^ 64) % 2 ^ a.w) c.from.ensures
     ∙ sym (add-mod-mod a.sum (walked % 2 ^ 64) (2 ^ a.w))
     ∙ ap (λ (n : ℕ). (a.sum + n) % 2 ^ a.w) (reduced a.w 64 walked (omega arith))
     ∙ add-mod-mod a.sum walked (2 ^ a.w)

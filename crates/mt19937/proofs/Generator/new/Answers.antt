@@ -4,4 +4,4 @@ use Rattle.mt19937.proofs.Generator.new.Goals as goal
 
 pub returns : goal.returns
 unfolding seeded
-returns c = rw c.fill-words.ensures
+returns c = rw c.fill.ensures

@@ -1,17 +1,12 @@
--- `stream::Stream::read` meets its contract: a refusal writes nothing, an accepted call the held sums, kept.
-use mathlib.Core.Path.{sym, ◌∙◌}
-use Rattle.answers.proofs.Rows.{refused, accepted}
-use Rattle.state_sums.proofs.Shared.{read_written}
-use Rattle.stream.specs.Calls.{read_row}
-use Rattle.stream.proofs.Valid.{reads}
+-- `stream::Stream::read` meets its contract: State, or what the sums' reading answers and leaves.
+use Rattle.state_sums.proofs.Reading.{unfit, is_read}
+use Rattle.stream.specs.Calls.{read_answer, read_row}
 use Rattle.stream.proofs.Stream.read.Goals as goal
 
-pub returns-then-answer-ne0 : goal.returns-then-answer-ne0
-unfolding read_row
-returns-then-answer-ne0 c = refused _ _ c.reading-answer.ensures c.if-answer-ne0.true
+pub returns-in_err-check : goal.returns-in_err-check
+unfolding read_answer read_row
+returns-in_err-check c = unfit _ _ c.fit.ensures _ _ c.from_residual.ensures.1 c.in_err-check.ensures
 
 pub returns : goal.returns
-unfolding read_row
-returns c =
-    let room = reads _ _ (sym c.reading-answer.ensures ∙ c.if-answer-ne0.false) in
-    accepted _ _ c.reading-answer.ensures _ c.if-answer-ne0.false (read_written _ _ _ room c.read.ensures)
+unfolding read_answer read_row
+returns c = is_read _ _ c.fit.ensures _ _ c.in_ok-check.ensures c.try_read.ensures.0 c.try_read.ensures.1

@@ -14,17 +14,17 @@ eights c = (search rules, search rules)
 accepted : (c : Start) → Takes c.args.s c.args.message.now c.args.key.now
 accepted c = takes _ _ _ c.requires.0
 
-pub overflow_cast-words : goal.overflow_cast-words
-overflow_cast-words c = omega (arith, (accepted (goal.at.overflow_cast-words c).Start).ready.room)
+pub overflow_cast-count : goal.overflow_cast-count
+overflow_cast-count c = omega (arith, (accepted (goal.at.overflow_cast-count c).Start).ready.room)
 
 pub overflow_add-count : goal.overflow_add-count
 overflow_add-count c = omega (arith, (accepted (goal.at.overflow_add-count c).Start).ready.room)
 
-pub last-keys-requires : goal.last-keys-requires
-last-keys-requires c = (accepted (goal.at.last-keys-requires c).Start).ready.state.held.settings.words
+pub last-requires : goal.last-requires
+last-requires c = (accepted (goal.at.last-requires c).Start).ready.state.held.settings.words
 
 pub returns : goal.returns
 returns c =
     let a = c.args in
     let long = eights (goal.at.returns c).Start in
-    pushed_from a.s a.message.now a.key.now _ _ (accepted (goal.at.returns c).Start) long.0 long.1 c.last-keys.ensures c.requires.1
+    pushed_from a.s a.message.now a.key.now _ _ (accepted (goal.at.returns c).Start) long.0 long.1 c.last.ensures c.requires.1

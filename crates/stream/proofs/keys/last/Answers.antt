@@ -11,9 +11,9 @@ use Rattle.stream.proofs.keys.last.Goals as goal
 pub returns-then-n-words : goal.returns-then-n-words
 returns-then-n-words c =
     let a = c.args in
-    c.row.ensures ∙ ap (padded 8) (last_pushed a.n (take a.n a.held) a.key.now (held_length 8 a.n a.held (omega arith) (search rules)) c.if-n-words.true)
+    c.row.ensures ∙ ap (padded 8) (last_pushed a.n (take a.n a.held.now) a.key.now (held_length 8 a.n a.held.now (omega arith) (search rules)) c.if-n-words.true)
 
 pub returns : goal.returns
 returns c =
     let a = c.args in
-    c.row-2.ensures ∙ ap (padded 8) (last_joint a.n (take a.n a.held) a.key.now (held_length 8 a.n a.held (omega arith) (search rules)) _ _ c.join-joint.ensures)
+    c.row-2.ensures ∙ ap (padded 8) (last_joint a.n (take a.n a.held.now) a.key.now (held_length 8 a.n a.held.now (omega arith) (search rules)) _ _ c.join-joint.ensures)

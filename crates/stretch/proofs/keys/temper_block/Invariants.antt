@@ -1,13 +1,8 @@
 -- `stretch::keys::temper_block` meets its contract. Before turn i the first i places are written.
-use Prim.Native.Nat.{◌≤◌, ◌-◌}
 use mathlib.Core.Path.{◌≡◌}
-use lib.ListN.{length}
 use Rattle.rows.specs.Written.{written}
 use Rattle.stretch.specs.Stretch.{key_from}
 use Rattle.stretch.proofs.keys.temper_block.Given as goal
 
 abbrev pub invariant-loop-i : goal.invariant-loop-i
-invariant-loop-i l = (l.i ≤ l.i-end) × (length l.out ≡ l.i-end) × (l.out ≡ written (key_from l.w l.words l.from) l.i l.initial.out)
-
-abbrev pub decreases-loop-i : goal.decreases-loop-i
-decreases-loop-i l = l.i-end - l.i
+invariant-loop-i l = l.out ≡ written (key_from l.w l.words l.from) l.i l.initial.out

@@ -1,7 +1,0 @@
--- `mt19937_array::mix` meets its contract, by its definition.
-use Rattle.mt19937_array.specs.SeedArray.{mixed}
-use Rattle.mt19937_array.proofs.mix.Goals as goal
-
-pub returns : goal.returns
-unfolding mixed
-returns c = rw c.wrapping_mul.ensures
