@@ -33,7 +33,7 @@ pub fn digest_code(
     Ok(())
 }
 
-// All tests but Word, which the walk makes.
+// All tests but Word, which the walk makes. This is the one call with digits, so their row is checked here.
 fn validate(w: u32, d: u32, message: &[u32], key: &[u32], out: &[u8]) -> Result<(), Refusal>
     ensures { Validates (code_tests w d message.now key.now out.now) (answer_of result) }
 {
@@ -51,7 +51,7 @@ fn bytes_of(d: u32) -> usize
     d.div_ceil(2) as usize
 }
 
-// The number's last digits into the row's first places, two to a byte, the last byte first.
+// The number's last digits into the row's first places, two to a byte, the last byte first. By place, since the row may be longer.
 fn write_digits(number: u64, places: usize, row: &mut [u8])
     requires { places ≤ length row.old }
     ensures { row.new ≡ last_bytes places number ++ drop places row.old }

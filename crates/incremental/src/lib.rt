@@ -13,7 +13,7 @@ use state_sums::Accumulator;
 mod sums;
 pub mod validation;
 
-// The settings, the number of message words and n full-width sums. Unused places are zero.
+// The settings, the number of message words and n full-width sums. Unused places are zero: no heap, as `Accumulator` says.
 #[derive(Clone, Copy)]
 pub struct Incremental {
     pub held: Accumulator,

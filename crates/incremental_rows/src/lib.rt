@@ -53,7 +53,8 @@ pub fn edit(
     Ok(())
 }
 
-// A reading of the state that the row holds.
+// A reading of the state that the row holds. Beside the one of stream_rows: a trait for both, with its laws, is no plainer than
+// this line.
 pub fn read(state: &[u32], out: &mut [u32]) -> Result<(), Refusal>
     ensures { (answer_of result ≡ read_row_answer state.now out.old)
         × (out.new ≡ read_row_out state.now out.old) }

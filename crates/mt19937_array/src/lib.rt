@@ -95,7 +95,7 @@ impl Mixing {
         }
     }
 
-    // The first loop. Word j of the seed and j are added, and j goes round the seed.
+    // The first loop. Word j of the seed and j are added, and j goes round the seed: both indices wrap on the way, so no row is walked.
     fn add_seed(&mut self, seed: &[u32])
         requires { (self.old.i ≡ 1) × (1 ≤ length seed.now) × (length seed.now ≤ 8) }
         ensures words { self.new.words ≡ steps (seed_step seed.now) 624 self.old.words }
@@ -109,7 +109,7 @@ impl Mixing {
         }
     }
 
-    // The second loop. The index is taken off.
+    // The second loop. The index is taken off; it wraps on the way here too.
     fn subtract_index(&mut self)
         requires { self.old.i ≡ place_at 624 }
         ensures { self.new.words ≡ steps index_step 623 self.old.words }

@@ -11,7 +11,7 @@ ghost use Rattle.state_sums.specs.Rows.{sums_of, sums_row};
 
 use answers::{Refusal, table};
 
-// The settings, a count, and n full-width sums. Unused places are zero.
+// The settings, a count, and n full-width sums. Unused places are zero: with no heap a state has the places of the longest.
 #[derive(Clone, Copy)]
 pub struct Accumulator {
     pub width: u32,
@@ -22,7 +22,7 @@ pub struct Accumulator {
 }
 
 impl Accumulator {
-    // Sums of no words yet. With zeros alone it is what a refused opening gives.
+    // Sums of no words yet. With zeros alone it stands for a refused opening's.
     #[tactic(auto, unfolding(crate::specs::State::begun))]
     pub fn new(w: u32, b: u32, n: u32, count: u32) -> Accumulator
         ensures { result ≡ begun w b n count }
@@ -88,7 +88,8 @@ impl Accumulator {
     }
 }
 
-// Width, Kept, Count.
+// Width, Kept, Count. Three numbers and no struct: they come apart through the C interface, each with a refusal of its own, and the
+// definitions of the states name each.
 pub fn settings(w: u32, b: u32, n: u32) -> Result<(), Refusal>
     ensures { Validates (settings_tests w b n) (answer_of result) }
 {

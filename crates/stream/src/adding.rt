@@ -27,7 +27,8 @@ pub(crate) fn pushed(s: Stream, sums: [u32; 8], message: &[u32], key: &[u32]) ->
 
 // Adds to the n sums what the message adds under the held and then the pushed key words, and answers whether its words and
 // the pushed ones fit. Only its first words reach into the held ones: they are summed over both rows, joined, and all later
-// words straight from the pushed row.
+// words straight from the pushed row. The numbers of a stream come apart here, since its sums are made beside it and dropped where a word
+// does not fit.
 pub(crate) fn add_part(
     w: u32,
     n: u32,

@@ -14,8 +14,8 @@ mod adding;
 mod keys;
 pub mod validation;
 
-// The settings, the count of words pushed and n full-width sums, and the last n key words. Unused places are zero: as the rows
-// that hold states have them, and with no heap.
+// The settings, the count of words pushed and n full-width sums, and the last n key words. Unused places are zero: with no heap
+// a state has the places of the longest.
 #[derive(Clone, Copy)]
 pub struct Stream {
     pub held: Accumulator,

@@ -34,7 +34,8 @@ fn block_end(from: usize, done: usize, n: usize) -> usize
 }
 
 // The whole row from a state and its position on; gives the position after it. Blocks spare a test for each word. The first block is as
-// long as what is left of the state, so no chunks of one length fit. Width and position stay numbers: the entries hand both on so.
+// long as what is left of the state, so no chunks of one length fit. The width stays a number, as the entries
+// hand it on; words and position come apart, as `make_ready` takes them.
 pub(crate) fn key_row(w: u32, words: &mut [u32; 624], at: usize, out: &mut [u32]) -> usize
     requires { (1 ≤ w) × (w ≤ 32) × (at ≤ 624) }
     ensures { (out.new ≡ key_row w (generator words.old at) (length out.old))

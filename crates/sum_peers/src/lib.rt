@@ -46,7 +46,8 @@ pub fn row_sums(
     }
 }
 
-// What the rows are summed with: words of w bits, n sums for a peer, and the keys of p peers, of size words each.
+// What the rows are summed with: words of w bits, n sums for a peer, and the keys of p peers, of size words each. The rows are
+// sixteen of eight whatever n and p are: the papers ask for them so, and there is no heap.
 #[derive(Drop)]
 struct Peers<'a> {
     w: u32,
@@ -91,13 +92,13 @@ impl Peers<'_> {
         range::below(self.w, bits)
     }
 
-    // Adds message words, of which the first is word j, to n sums of each row, peer by peer, in place: row and keys are both at q.
+    // Adds message words, of which the first is word j, to n sums of each row, peer by peer, in place.
     fn add_to_rows<const K: usize>(&self, words: [u32; K], j: usize, rows: &mut [[u64; 8]; 16])
         requires { Sixteen rows.old × (j + (K + self.now.n) ≤ self.now.size) }
         ensures { RowsAccumulated self.now.w self.now.n self.now.p self.now.size words.entry (drop j self.now.keys.now) rows.old rows.new }
     {
-        for q in 0..self.p {
-            self.add_to_row(words, &self.keys[q * self.size + j..], &mut rows[q]);
+        for (q, sums) in rows[..self.p].iter_mut().enumerate() {
+            self.add_to_row(words, &self.keys[q * self.size + j..], sums);
         }
     }
 

@@ -1,4 +1,4 @@
-use Rattle.std.proofs.Common.{◌≡◌, length, arith}
+use Rattle.std.proofs.Common.{length, arith}
 use Rattle.mt19937_array.specs.SeedArray.{seed_step}
 use Rattle.mt19937.proofs.Laws.{steps_none, steps_next}
 use Rattle.mt19937_array.proofs.SeedArray.{index_first, index_next, place_first, place_next, seed_word_mixed}
@@ -19,9 +19,3 @@ loop-k-preserved c =
       place_next l.k l.invariant.2 c.put.ensures.i,
       index_next 0 (length seed) l.k l.j (omega arith) l.invariant.3 c.step_on-j.ensures,
     )
-
-pub returns : goal.returns
-returns c =
-    let l = c.loop-k in
-    let done : l.k ≡ 624 = omega arith in
-    record { words = rw done at l.invariant.1; i = rw done at l.invariant.2 }

@@ -17,6 +17,3 @@ loop-k-preserved c =
       cc (c.put.ensures.words, word, l.invariant.1, l.invariant.2, steps_next index_step l.k c.args.self.now.words),
       rw turn at (place_next (624 + l.k) l.invariant.2 c.put.ensures.i),
     )
-
-pub returns : goal.returns
-returns c = let l = c.loop-k in let done : l.k ≡ 623 = omega arith in rw done at l.invariant.1
