@@ -23,9 +23,21 @@ module _ (n : ℕ) (ts : List Test) (a : ℕ) {h r : Bool} where
   unfolding first_of
   passes e t p = rw (sym e ∙ t) p
 
+  -- a row whose condition is that something does not hold
+  pub stops_not : r ≡ h → not r ≡ true → first_of (test n (not h) ∷ ts) a ≡ n
+  unfolding first_of
+  stops_not e t = rw (ap not (sym e) ∙ t)
+
+  pub passes_not : {x : ℕ} → r ≡ h → not r ≡ false → first_of ts a ≡ x → first_of (test n (not h) ∷ ts) a ≡ x
+  unfolding first_of
+  passes_not e t p = rw (ap not (sym e) ∙ t) p
+
 pub none_holds : (a : ℕ) → first_of [] a ≡ a
 unfolding first_of
 none_holds a = refl
+
+-- for the search of a function that validates
+pub ruleset validated = (stops, passes, stops_not, passes_not, none_holds)
 
 -- r is what the first tests gave, x the later answer: a refusal stands, else x does
 module _ (ts : List Test) {r : ℕ} (j : Validates ts r) (x : ℕ) where

@@ -1,7 +1,8 @@
 // MT19937 of Matsumoto and Nishimura, in its 2002 initialisation by a seed.
 #![tactic(auto)]
 
-ghost use Rattle.std.specs.Prelude.{◌≡◌, ℕ, ◌+◌, ◌-◌, ◌*◌, ◌%◌, ◌^◌, ◌<◌, ◌≤◌, List, IfOk};
+ghost use Rattle.std.specs.Prelude.{◌≡◌, ℕ, ◌+◌, ◌-◌, ◌*◌, ◌%◌, ◌^◌, ◌<◌, ◌≤◌, List};
+ghost use Rattle.std.specs.Result.{result_unwrap_or};
 ghost use Rattle.answers.specs.Refusals.{answer_of};
 ghost use Rattle.mt19937.specs.Published.{steps, generator, following, new_words, seeded, concatenated, twisted, twist, refill, ready, temper, taken, next_of};
 
@@ -62,10 +63,10 @@ impl Generator {
         }
     }
 
-    // The next output. A refusal leaves the state as it was.
+    // The next output, or in its absence 0. A refusal leaves the state as it was.
     pub fn next(&mut self) -> Result<u32, Refusal>
         ensures answer { answer_of result ≡ (next_of self.old).answer }
-        ensures word { IfOk result (λ word. word ≡ (next_of self.old).word) }
+        ensures word { result_unwrap_or result 0 ≡ (next_of self.old).word }
         ensures state { self.new ≡ (next_of self.old).state }
     {
         if self.at > Self::SIZE {

@@ -1,6 +1,7 @@
 -- Laws of the two indices of a seed array's initialisation, of its words, and of what is refused.
 use Rattle.std.proofs.Common.{◌≡◌, ℕ, ◌+◌, ◌-◌, ◌%◌, ◌^◌, ◌<◌, ◌≤◌, Bool, true, false, cond, leb, List, [], ◌∷◌, length, slice_index, sym, refl, ap, ◌∙◌, add-one, arith, leb-false}
-use native.Mathlib.Nat.{mod-add-mod}
+use native.Mathlib.Nat.{mod-add-mod, add-mod_right, mod-eq_of_lt}
+use borrow.Author.Tests.{ne_eqb}
 use Rattle.answers.specs.declared.Refusal.{Refusal}
 use Rattle.answers.specs.Answers.{first_of, Validates}
 use Rattle.answers.specs.Refusals.{number}
@@ -8,7 +9,7 @@ use Rattle.answers.specs.Table.{bad_seed, seed_test}
 use Rattle.answers.proofs.Refused.{some_number}
 use Rattle.answers.proofs.Validation.{refusal_stands, passed}
 use Rattle.mt19937.specs.Published.{generator}
-use Rattle.mt19937_array.specs.SeedArray.{onward, turned, place_at, mixed, seed_word, index_word, array_words, array_answer, arrayed, made}
+use Rattle.mt19937_array.specs.SeedArray.{onward, turned, place_at, mixed, seed_word, index_word, array_words, array_answer, no_generator, arrayed, made}
 
 -- the index i before turn k, which lies between its ends
 pub record Index (start end k i : ℕ) : Type 0 where
@@ -44,11 +45,28 @@ pub place_next : (k : ℕ) {i next : ℕ} → i ≡ place_at k → next ≡ onwa
 unfolding turned
 place_next k e f = f ∙ ap (onward 1 624) e ∙ ap (turned 1 624) (sym (add-one k))
 
+-- what gives a when b is added is a less b, modulo m
+pub sub_back : (m r a b : ℕ) → r < m → b ≤ m → (r + b) % m ≡ a → r ≡ (a + m - b) % m
+sub_back m r a b h k e =
+    let whole : r + b + (m - b) ≡ r + m = omega arith in
+    let taken : a + m - b ≡ a + (m - b) = omega arith in
+    sym
+    (ap (λ (x : ℕ). x % m) (taken ∙ ap (λ (x : ℕ). x + (m - b)) (sym e))
+    ∙ mod-add-mod (r + b) m (m - b)
+    ∙ ap (λ (x : ℕ). x % m) whole
+    ∙ add-mod_right r m
+    ∙ mod-eq_of_lt h)
+
 -- a seed of no words or of too many is refused, another makes its words
 module _ (seed : List ℕ) where
   pub making_refused : (refusal : Refusal) → Validates (seed_test (length seed) ∷ []) (number refusal) → number refusal ≡ (made seed).answer
   unfolding made array_answer
   making_refused refusal j = refusal_stands _ j 0 (some_number refusal)
+
+  pub none_made : (refusal : Refusal) → Validates (seed_test (length seed) ∷ []) (number refusal) → no_generator ≡ (made seed).state
+  unfolding made arrayed array_answer
+  none_made refusal j =
+      rw (ne_eqb (first_of (seed_test (length seed) ∷ []) 0) 0 (λ z. some_number refusal (refusal_stands _ j 0 (some_number refusal) ∙ z)))
 
   pub making_passed : Validates (seed_test (length seed) ∷ []) 0 → bad_seed (length seed) ≡ false
   making_passed j = (passed 10 _ [] 0 (j 0)).0

@@ -1,7 +1,8 @@
 // MT19937 made new from an array of seed words: its published initialisation by array of 2002.
 #![tactic(auto)]
 
-ghost use Rattle.std.specs.Prelude.{◌≡◌, ◌<◌, ◌≤◌, length, IfOk};
+ghost use Rattle.std.specs.Prelude.{◌≡◌, ◌<◌, ◌≤◌, length};
+ghost use Rattle.std.specs.Result.{result_unwrap_or};
 ghost use Rattle.answers.specs.Refusals.{answer_of};
 ghost use Rattle.mt19937.specs.Published.{steps};
 ghost use Rattle.mt19937_array.specs.SeedArray.{onward, place_at, mixed, put, seed_step, index_word, index_step, array_words, no_generator, made};
@@ -21,10 +22,11 @@ pub const FIRST_WORD: u32 = 0x8000_0000;
 // The last state word.
 const LAST: usize = Generator::SIZE - 1;
 
-// From an array of 1 to 8 seed words. One word makes another generator than the same word as a seed.
+// From an array of 1 to 8 seed words. One word makes another generator than the same word as a seed. What it makes, or in its
+// absence the all-zero generator, is the state of the making.
 pub fn from_array(seed: &[u32]) -> Result<Generator, Refusal>
     ensures answer { answer_of result ≡ (made seed.now).answer }
-    ensures state { IfOk result (λ g. g ≡ (made seed.now).state) }
+    ensures state { result_unwrap_or result no_generator ≡ (made seed.now).state }
 {
     table::seed(seed.len())?;
     Ok(Generator {

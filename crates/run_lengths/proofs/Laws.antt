@@ -12,7 +12,7 @@ use Rattle.theory_counts.specs.Words.{fits}
 use Rattle.theory_digest.specs.Digest.{whole_sum, one_word, full_words, kept, digest}
 use Rattle.theory_counts.specs.Count.{sum_to, count, over_rows, as_number, same_row}
 use Rattle.theory_digest.specs.Settings.{InRange}
-use Rattle.theory_counts.proofs.Sums.{sum_cong, sum_cong_below}
+use Rattle.theory_counts.proofs.Sums.{sum_cong, sum_cong_below, sum_prod}
 use Rattle.rows.specs.Written.{tabulate}
 use Rattle.rows.proofs.Written.{tabulate_at}
 use Rattle.answers.specs.Table.{bad_byte_width}
@@ -117,6 +117,24 @@ first_word_done byte k₁ = refl
 pub in_order : (byte : ℕ) → keys_of byte ≡ sum_to 256 (keys_from byte)
 unfolding keys_of byte_keys_that_match byte_keys count over_rows keys_after keys_from words_of in_words closed count_of words_from
 in_order byte = sum_cong 256 (λ k₁. sum_cong 256 (λ k₂. sum_cong 256 (λ k₃. one_key byte k₁ k₂ k₃)))
+
+-- the same with the first two words as one number i
+pub keys_at : ℕ → ℕ → ℕ
+keys_at byte i = sum_to 256 (match_under byte (i / 256) (i % 256))
+
+pub in_order_by_pairs : (byte : ℕ) → keys_of byte ≡ sum_to 65536 (keys_at byte)
+unfolding keys_at keys_from keys_after
+in_order_by_pairs byte =
+    in_order byte
+    ∙ sym
+    (sum_prod 256 256 (keys_at byte)
+    ∙ sum_cong 256 (λ k₁. sum_cong_below 256 _ _ (λ k₂ h. parts k₁ k₂ h)))
+  where
+    parts : (k₁ k₂ : ℕ) → k₂ < 256 → sum_to 256 (match_under byte ((k₁ * 256 + k₂) / 256) ((k₁ * 256 + k₂) % 256)) ≡ sum_to 256 (match_under byte k₁ k₂)
+    parts k₁ k₂ h =
+        let q : (k₁ * 256 + k₂) / 256 ≡ k₁ = omega arith in
+        let r : (k₁ * 256 + k₂) % 256 ≡ k₂ = omega arith in
+        rw (q, r)
 
 -- a turn of the loop over the first two words: the messages' digests under them and a last word of 0, and what each last word adds
 pub one_turn : (byte k₁ k₂ wanted start r : ℕ) (lasts : List ℕ) → lasts ≡ tabulate last_word 256

@@ -3,6 +3,7 @@ use mathlib.Core.Path.{◌≡◌, refl, sym, ap, ◌∙◌}
 use mathlib.Core.Bool.{Bool, true, false, not, true≢false}
 use mathlib.Core.List.{List, [], ◌∷◌, ◌++◌}
 use Prim.Native.Nat.{ℕ}
+use native.Mathlib.Nat.{suc-ne-zero}
 use native.Mathlib.Omega.{arith}
 use lib.ListN.{length, drop}
 use borrow.Author.Tests.{not-false}
@@ -10,10 +11,11 @@ use Rattle.std.specs.Prelude.{Err}
 use Rattle.rows.specs.Written.{over}
 use Rattle.rows.proofs.Written.{over_fits}
 use Rattle.answers.specs.declared.Refusal.{Refusal}
-use Rattle.answers.specs.Answers.{Test, first_of, Validates}
+use Rattle.answers.specs.Answers.{Test, first_of, Validates, state_after}
 use Rattle.answers.specs.Refusals.{number}
 use Rattle.answers.specs.Table.{small_tray, state_test, tray_test}
 use Rattle.answers.proofs.Refused.{some_number, refuses_where}
+use Rattle.answers.proofs.States.{state_refused, state_accepted}
 use Rattle.answers.proofs.Validation.{passes, passed, tray_passed, refusal_stands}
 use Rattle.state_rows.specs.Calls.{row_answer, row_left}
 
@@ -37,6 +39,28 @@ module _ (ofKind : Bool) where
     pub not_left : (left old : List ℕ) → old ≡ row_left ofKind left old
     unfolding row_left
     not_left left old = rw none
+
+-- a call that changes the row, by what it found: r is whether the row is one of its kind's
+module _ {ofKind r : Bool} (e : r ≡ ofKind) where
+  module _ (unlike : r ≡ false) where
+    answers_eight : (answer : ℕ) → 8 ≡ row_answer ofKind answer
+    unfolding row_answer first_of
+    answers_eight answer = rw (sym e ∙ unlike)
+
+    pub not_taken : (answer : ℕ) (new row : List ℕ) → (8 ≡ row_answer ofKind answer) × (row ≡ state_after (row_answer ofKind answer) new row)
+    not_taken answer new row = state_refused new row (answers_eight answer) (suc-ne-zero 7)
+
+  module _ (one : r ≡ true) where
+    answers_so : {x answer : ℕ} → x ≡ answer → x ≡ row_answer ofKind answer
+    unfolding row_answer first_of
+    answers_so p = rw (sym e ∙ one) p
+
+    -- the state's row after a refusal by value, and after an accepted call
+    pub row_refused : {x answer : ℕ} (new row : List ℕ) → x ≡ answer → (x ≡ 0 → ⊥) → (x ≡ row_answer ofKind answer) × (row ≡ state_after (row_answer ofKind answer) new row)
+    row_refused new row p ne = state_refused new row (answers_so p) ne
+
+    pub row_taken : {x answer : ℕ} (new row after : List ℕ) → x ≡ answer → x ≡ 0 → after ≡ new → (x ≡ row_answer ofKind answer) × (after ≡ state_after (row_answer ofKind answer) new row)
+    row_taken new row after p z wrote = state_accepted new row (answers_so p) after z wrote
 
 -- what the call by value answers, or leaves in a lent row
 module _ {ofKind : Bool} (one : ofKind ≡ true) where

@@ -8,7 +8,7 @@ use lib.Dec.{eqb}
 use borrow.Author.Tests.{ne_eqb, eqb-true}
 use lib.ListN.{length}
 use Rattle.std.specs.Prelude.{Result, Ok, Err, IfOk}
-use Rattle.std.specs.Result.{MatchResult}
+use Rattle.std.specs.Result.{MatchResult, result_unwrap_or}
 use Rattle.answers.specs.declared.Refusal.{Refusal}
 use Rattle.answers.specs.Answers.{Test, first_of, Validates}
 use Rattle.answers.specs.Refusals.{number, answer_of}
@@ -110,6 +110,11 @@ arrayed_fit seed e = rw e (go (eqb (array_answer seed) 0))
 pub arrayed_none : (seed : List ℕ) (refusal : Refusal) {g : Generator} → number refusal ≡ array_answer seed → g ≡ no_generator → g ≡ arrayed seed
 unfolding arrayed
 arrayed_none seed refusal n e = rw (ne_eqb (array_answer seed) 0 (λ z. some_number refusal (n ∙ z))) e
+
+-- what is said of a value or of what stands in its absence, said of the value
+pub made_ok : (r : Result Generator Refusal) (d : Generator) {g : Generator} → result_unwrap_or r d ≡ g → IfOk r (λ x. x ≡ g)
+made_ok (Ok x) d e = e
+made_ok (Err f) d e = tt
 
 pub made_or_none : (seed : List ℕ) (r : Result Generator Refusal) (P : Refusal → Type 0) {g : Generator} → answer_of r ≡ array_answer seed
     → IfOk r (λ x. x ≡ arrayed seed) → ((e : Refusal) → P e → g ≡ no_generator) → MatchResult r (λ x. g ≡ x) P → g ≡ arrayed seed

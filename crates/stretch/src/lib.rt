@@ -6,7 +6,7 @@ ghost use Rattle.answers.specs.Refusals.{answer_of};
 ghost use Rattle.mt19937.specs.Published.{seeded};
 ghost use Rattle.mt19937.specs.declared.Generator.{Generator};
 ghost use Rattle.mt19937_array.specs.SeedArray.{arrayed};
-ghost use Rattle.stretch.specs.Stretch.{stretch_array_answer};
+ghost use Rattle.stretch.specs.Stretch.{after, key_row, stretch_array_answer};
 ghost use Rattle.stretch.specs.Load.{load_array_answer, key_after, message_after};
 
 use answers::{MOST_MESSAGE, MOST_STRETCH, Refusal, table};
@@ -74,10 +74,20 @@ pub fn load<S: Seed>(w: u32, seed: S, key: &mut [u32], message: &mut [u32]) -> R
         × (message.new ≡ message_after answer w (S.makes seed) key.old message.old) }
 {
     validate(w, seed.words(), key.len(), message.len())?;
+    write_rows(w, seed, key, message);
+    Ok(())
+}
+
+// The two rows of an accepted load. A function of its own, since a generator's words are zeroed where a function begins: a refused
+// call would wait for it.
+fn write_rows<S: Seed>(w: u32, seed: S, key: &mut [u32], message: &mut [u32])
+    requires { (1 ≤ w) × (w ≤ 32) }
+    ensures { (key.new ≡ key_row w (S.makes seed) (length key.old))
+        × (message.new ≡ key_row w (after (length key.old) (S.makes seed)) (length message.old)) }
+{
     let Generator { mut words, at } = seed.generator();
     let next = keys::key_row(w, &mut words, at, key);
     keys::key_row(w, &mut words, next, message);
-    Ok(())
 }
 
 // By how many words seed, key row and message row have. A plain seed's one word passes, and so does a missing message row.

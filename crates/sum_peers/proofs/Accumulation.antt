@@ -1,7 +1,8 @@
 -- Rows of sums: one word more, and a message in two parts.
 -- Assumes nothing.
-use Rattle.std.proofs.Common.{◌≡◌, ℕ, ◌+◌, ◌*◌, ◌%◌, ◌^◌, ◌<◌, ◌≤◌, List, [], ◌∷◌, ◌++◌, length, get_or, take, drop, replicate, sym, refl, ap, ◌∙◌, ap₂, add_assoc, arith, length-take-le, take-suc, add-one}
+use Rattle.std.proofs.Common.{◌≡◌, ℕ, suc, ◌+◌, ◌*◌, ◌%◌, ◌^◌, ◌<◌, ◌≤◌, List, [], ◌∷◌, ◌++◌, length, get_or, take, drop, set, replicate, sym, refl, ap, ◌∙◌, subst, ap₂, le_refl, add_assoc, arith, length-set, get_or-set_other, get_or-set_same, length-take-le, drop-cons, take-add, take-suc, add-one}
 use native.Mathlib.Nat.{add-mod, mod-add-mod}
+use native.Mathlib.Decide.{ℕ_discrete}
 use lib.ListN.{length-replicate, get_or-replicate}
 use Rattle.theory_digest.specs.Digest.{whole_sum}
 use Rattle.theory_digest.proofs.Laws.{sum_append}
@@ -59,6 +60,23 @@ module _ (w n : ℕ) where
   )
 
   module _ (size : ℕ) (ms ks : List ℕ) (old : List (List ℕ)) where
+    -- rows peer by peer
+    pub one_accumulated : (q : ℕ) (part row : List ℕ) (rows : List (List ℕ)) → q < 16 → part ≡ drop (q * size) ks
+        → RowsAccumulated w n q size ms ks old rows
+        → RowAccumulated w n ms part (get_or rows q []) row
+        → RowsAccumulated w n (q + 1) size ms ks old (set rows q row)
+    one_accumulated q part row rows lt lent h one = (
+      length-set rows q row ∙ h.0,
+      λ i less. go i less (ℕ_discrete i q),
+      λ i le. get_or-set_other rows q i row [] (λ e. omega arith) ∙ h.2 i (omega arith),
+    )
+      where
+        go : (i : ℕ) → i < q + 1 → Dec (i ≡ q) → RowAccumulated w n ms (drop (i * size) ks) (get_or old i []) (get_or (set rows q row) i [])
+        go i less (yes same) =
+            subst (λ (j : ℕ). RowAccumulated w n ms (drop (j * size) ks) (get_or old j []) (get_or (set rows q row) j [])) (sym same)
+            (rw (get_or-set_same rows q row [] (omega (arith, h.0)), ← lent, ← h.2 q (le_refl q)) one)
+        go i less (no other) = rw (get_or-set_other rows q i row [] other) (h.1 i (omega arith))
+
     -- a message in two parts
     pub all_append : (p : ℕ) (more rest : List ℕ) (mid new : List (List ℕ)) → rest ≡ drop (length ms) ks
         → RowsAccumulated w n p size ms ks old mid
@@ -72,3 +90,21 @@ module _ (w n : ℕ) where
           (second.1 q lt),
       λ q le. second.2 q le ∙ first.2 q le,
     )
+
+-- a message that is not cut into pairs: the two words from j on
+module _ (ms : List ℕ) (j : ℕ) (within : j + 1 < length ms) where
+  with_two : take (j + 2) ms ≡ take j ms ++ (get_or ms j 0 ∷ get_or ms (j + 1) 0 ∷ [])
+  with_two =
+      let here = drop-cons ms j 0 (omega arith) ∙ ap (λ (l : List ℕ). get_or ms j 0 ∷ l) (drop-cons ms (suc j) 0 (omega arith)) in
+      take-add j 2 ms
+      ∙ ap (λ (l : List ℕ). take j ms ++ take 2 l) here
+      ∙ ap (λ (k : ℕ). take j ms ++ (get_or ms j 0 ∷ get_or ms k 0 ∷ [])) (sym (add-one j))
+
+  pub pair_added : (w n p size : ℕ) (ks rest : List ℕ) (old mid new : List (List ℕ)) → rest ≡ drop j ks
+      → RowsAccumulated w n p size (take j ms) ks old mid
+      → RowsAccumulated w n p size (get_or ms j 0 ∷ get_or ms (j + 1) 0 ∷ []) rest mid new
+      → RowsAccumulated w n p size (take (j + 2) ms) ks old new
+  pair_added w n p size ks rest old mid new after before pair =
+      let taken : length (take j ms) ≡ j = length-take-le j ms (omega arith) in
+      rw with_two
+      (all_append w n size (take j ms) ks old p (get_or ms j 0 ∷ get_or ms (j + 1) 0 ∷ []) rest mid new (after ∙ ap (λ (k : ℕ). drop k ks) (sym taken)) before pair)

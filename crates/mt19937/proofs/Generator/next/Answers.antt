@@ -7,7 +7,7 @@ use Rattle.mt19937.proofs.Generator.next.Goals as goal
 pub returns-then-self-gt-SIZE : goal.returns-then-self-gt-SIZE
 returns-then-self-gt-SIZE c =
     let refused = next_refused _ c.if-self-gt-SIZE.true in
-    record { answer = ap (λ (n : Next). n.answer) refused; word = tt; state = ap (λ (n : Next). n.state) refused }
+    record { answer = ap (λ (n : Next). n.answer) refused; word = ap (λ (n : Next). n.word) refused; state = ap (λ (n : Next). n.state) refused }
 
 pub take-requires : goal.take-requires
 take-requires c = ready_left _ (omega arith) c.make_ready-self.ensures
